@@ -1,0 +1,67 @@
+//! The errnos that calls are refused with.
+
+ghost use Rattle.std.specs.Prelude.{◌≡◌};
+ghost use Rattle.uv_num.specs.Errno.{errno_number, errno_name};
+
+/// Why a call is refused, as one of Linux's error numbers (`asm-generic/errno-base.h` and `asm-generic/errno.h`).
+#[derive(Clone, Copy, Debug, PartialEq, Eq)]
+pub enum Errno {
+    /// The handle names no object.
+    NoEnt,
+    /// The device is gone.
+    Io,
+    /// The file isn't open.
+    BadF,
+    /// Nothing is there yet.
+    Again,
+    /// Memory ran out.
+    NoMem,
+    /// The object is in use.
+    Busy,
+    /// An argument is wrong.
+    Inval,
+    /// No number or cell is free.
+    NoSpc,
+    /// An attribute that must be understood isn't known.
+    ProtoNoSupport,
+    /// The object's state doesn't allow the request.
+    OpNotSupp,
+}
+
+impl Errno {
+    /// Linux's number for it.
+    pub fn number(self) -> u32
+        ensures { result ≡ errno_number self }
+    {
+        match self {
+            Errno::NoEnt => 2,
+            Errno::Io => 5,
+            Errno::BadF => 9,
+            Errno::Again => 11,
+            Errno::NoMem => 12,
+            Errno::Busy => 16,
+            Errno::Inval => 22,
+            Errno::NoSpc => 28,
+            Errno::ProtoNoSupport => 93,
+            Errno::OpNotSupp => 95,
+        }
+    }
+
+    /// Its symbol, as reports print it.
+    pub fn name(self) -> &'static str
+        ensures { result.now ≡ errno_name self }
+    {
+        match self {
+            Errno::NoEnt => "ENOENT",
+            Errno::Io => "EIO",
+            Errno::BadF => "EBADF",
+            Errno::Again => "EAGAIN",
+            Errno::NoMem => "ENOMEM",
+            Errno::Busy => "EBUSY",
+            Errno::Inval => "EINVAL",
+            Errno::NoSpc => "ENOSPC",
+            Errno::ProtoNoSupport => "EPROTONOSUPPORT",
+            Errno::OpNotSupp => "EOPNOTSUPP",
+        }
+    }
+}

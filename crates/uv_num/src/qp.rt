@@ -1,0 +1,55 @@
+//! The states and services of a queue pair.
+
+ghost use Rattle.std.specs.Prelude.{◌≡◌};
+ghost use Rattle.uv_num.specs.Qp.{qp_state_number, service_number};
+
+/// A state of a queue pair. Linux's states between (SQD and SQE) aren't modelled.
+#[derive(Clone, Copy, Debug, PartialEq, Eq)]
+pub enum QpState {
+    /// Reset: nothing is posted.
+    Reset,
+    /// Initialised: receives may be posted.
+    Init,
+    /// Ready to receive.
+    Rtr,
+    /// Ready to send.
+    Rts,
+    /// Broken: what is posted is flushed.
+    Err,
+}
+
+impl QpState {
+    /// Its number in `enum ib_qp_state` (`rdma/ib_verbs.h`).
+    pub fn number(self) -> u32
+        ensures { result ≡ qp_state_number self }
+    {
+        match self {
+            QpState::Reset => 0,
+            QpState::Init => 1,
+            QpState::Rtr => 2,
+            QpState::Rts => 3,
+            QpState::Err => 6,
+        }
+    }
+}
+
+/// The service that a queue pair gives.
+#[derive(Clone, Copy, Debug, PartialEq, Eq)]
+pub enum Service {
+    /// Reliable connection.
+    Rc,
+    /// Unreliable datagram.
+    Ud,
+}
+
+impl Service {
+    /// Its number in `enum ib_qp_type` (`rdma/ib_verbs.h`).
+    pub fn number(self) -> u32
+        ensures { result ≡ service_number self }
+    {
+        match self {
+            Service::Rc => 2,
+            Service::Ud => 4,
+        }
+    }
+}
