@@ -1,8 +1,11 @@
 pub mod BytesLending
 pub mod Errno
 pub mod Filled
+pub mod Ids
 pub mod Kind
 pub mod ListLending
 pub mod Qp
 pub mod Request
 pub mod RoomLending
+pub mod StockLending
+pub mod Stocked

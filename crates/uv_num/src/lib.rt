@@ -7,15 +7,20 @@
 
 mod bytes;
 mod errno;
+mod identity;
+mod ids;
 mod kind;
 mod limits;
 mod list;
 mod qp;
 mod request;
 mod room;
+mod stock;
 
 pub use bytes::Bytes;
 pub use errno::Errno;
+pub use identity::Identity;
+pub use ids::Ids;
 pub use kind::Kind;
 pub use limits::{
     ACTORS, CELLS, CHANNEL_EVENTS, CLIENTS, CQ_DEPTH, DEVICES, DRIVER, ENDER, FILES, HANDLES,
@@ -26,3 +31,4 @@ pub use list::List;
 pub use qp::{QpState, Service};
 pub use request::{Ask, Request, Role};
 pub use room::Room;
+pub use stock::Stock;
