@@ -1,0 +1,5 @@
+pub mod EachLaws
+pub mod Maps
+pub mod PlaceLaws
+pub mod PlacesOf
+pub mod Prefixes

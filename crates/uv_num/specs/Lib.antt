@@ -1,9 +1,12 @@
 pub mod BytesLending
+pub mod Each
 pub mod Errno
 pub mod Filled
 pub mod Ids
 pub mod Kind
 pub mod ListLending
+pub mod Place
+pub mod Prefix
 pub mod Qp
 pub mod Request
 pub mod RoomLending
