@@ -108,3 +108,26 @@ impl Bytes {
         self.items.extend_from_slice(piece)
     }
 }
+
+#[cfg(test)]
+mod tests {
+    use super::*;
+    use std::test::Fail;
+
+    #[test]
+    fn bytes_are_put_behind_one_another(rt: HostRuntime) -> Result<(), Fail> {
+        let mut bytes = Bytes::with_room(rt.alloc(), 1)?;
+        assert!(rt; bytes.is_empty());
+        bytes.put(1);
+        bytes.push(2)?;
+        bytes.extend(&[3, 4])?;
+        for byte in bytes.as_mut_slice() {
+            *byte ^= 8;
+        }
+        assert_eq!(rt; bytes.len(), 4);
+        assert_eq!(rt; bytes.as_slice(), [9, 10, 11, 12].as_slice());
+        let again = Bytes::from_vec(bytes.into_vec());
+        assert_eq!(rt; again.len(), 4);
+        Ok(())
+    }
+}

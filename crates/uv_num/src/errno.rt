@@ -65,3 +65,30 @@ impl Errno {
         }
     }
 }
+
+#[cfg(test)]
+mod tests {
+    use super::*;
+    use std::test::Fail;
+
+    #[test]
+    fn errnos_have_the_numbers_of_linux(rt: HostRuntime) -> Result<(), Fail> {
+        let rows = [
+            (Errno::NoEnt, 2, "ENOENT"),
+            (Errno::Io, 5, "EIO"),
+            (Errno::BadF, 9, "EBADF"),
+            (Errno::Again, 11, "EAGAIN"),
+            (Errno::NoMem, 12, "ENOMEM"),
+            (Errno::Busy, 16, "EBUSY"),
+            (Errno::Inval, 22, "EINVAL"),
+            (Errno::NoSpc, 28, "ENOSPC"),
+            (Errno::ProtoNoSupport, 93, "EPROTONOSUPPORT"),
+            (Errno::OpNotSupp, 95, "EOPNOTSUPP"),
+        ];
+        for (errno, number, name) in rows.iter() {
+            assert_eq!(rt; errno.number(), *number);
+            assert_eq!(rt; errno.name(), *name);
+        }
+        Ok(())
+    }
+}

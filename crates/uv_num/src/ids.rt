@@ -116,3 +116,24 @@ impl Ids {
         }
     }
 }
+
+#[cfg(test)]
+mod tests {
+    use super::*;
+    use std::test::Fail;
+
+    #[test]
+    fn ids_keep_their_order(rt: HostRuntime) -> Result<(), Fail> {
+        let ids = Ids::none().put(5).put(6).put(7).put(8);
+        assert_eq!(rt; ids.len(), 4);
+        assert!(rt; !ids.is_empty());
+        assert!(rt; ids.contains(8));
+        assert!(rt; !ids.contains(9));
+        assert_eq!(rt; ids.first(), Some(5));
+        assert_eq!(rt; ids.get(2), Some(7));
+        assert_eq!(rt; ids.get(4), None);
+        assert_eq!(rt; ids.without_first().first(), Some(6));
+        assert_eq!(rt; Ids::one(5).without_first(), Ids::Empty);
+        Ok(())
+    }
+}

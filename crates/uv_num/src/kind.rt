@@ -89,3 +89,30 @@ impl Kind {
         }
     }
 }
+
+#[cfg(test)]
+mod tests {
+    use super::*;
+    use std::test::Fail;
+
+    #[test]
+    fn kinds_have_the_numbers_and_ranks_of_the_table(rt: HostRuntime) -> Result<(), Fail> {
+        let rows = [
+            (Kind::Pd, 1, 1, "pd"),
+            (Kind::Channel, 2, 1, "channel"),
+            (Kind::Cq, 3, 2, "cq"),
+            (Kind::Qp, 4, 3, "qp"),
+            (Kind::Srq, 5, 2, "srq"),
+            (Kind::Ah, 6, 2, "ah"),
+            (Kind::Mr, 7, 2, "mr"),
+            (Kind::Mw, 8, 3, "mw"),
+        ];
+        for (place, (kind, number, rank, name)) in rows.iter().enumerate() {
+            assert_eq!(rt; kind.number(), *number);
+            assert_eq!(rt; kind.rank(), *rank);
+            assert_eq!(rt; kind.name(), *name);
+            assert_eq!(rt; kind.place(), place);
+        }
+        Ok(())
+    }
+}

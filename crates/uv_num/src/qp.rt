@@ -53,3 +53,21 @@ impl Service {
         }
     }
 }
+
+#[cfg(test)]
+mod tests {
+    use super::*;
+    use std::test::Fail;
+
+    #[test]
+    fn states_and_services_have_the_numbers_of_linux(rt: HostRuntime) -> Result<(), Fail> {
+        assert_eq!(rt; QpState::Reset.number(), 0);
+        assert_eq!(rt; QpState::Init.number(), 1);
+        assert_eq!(rt; QpState::Rtr.number(), 2);
+        assert_eq!(rt; QpState::Rts.number(), 3);
+        assert_eq!(rt; QpState::Err.number(), 6);
+        assert_eq!(rt; Service::Rc.number(), 2);
+        assert_eq!(rt; Service::Ud.number(), 4);
+        Ok(())
+    }
+}

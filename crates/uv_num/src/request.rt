@@ -49,3 +49,20 @@ impl Request {
         }
     }
 }
+
+#[cfg(test)]
+mod tests {
+    use super::*;
+    use std::test::Fail;
+
+    #[test]
+    fn requests_create_and_destroy(rt: HostRuntime) -> Result<(), Fail> {
+        let ask = Ask {
+            kind: Kind::Pd,
+            handle: 7,
+        };
+        assert_eq!(rt; Request::AllocPd.role(), Role::Creates(Kind::Pd));
+        assert_eq!(rt; Request::DeallocPd { pd: 7 }.role(), Role::Destroys(ask));
+        Ok(())
+    }
+}

@@ -140,3 +140,33 @@ impl<T: Drop, const MOST: usize> Room<T, MOST> {
         self.items.retain(f);
     }
 }
+
+#[cfg(test)]
+mod tests {
+    use super::*;
+    use std::test::Fail;
+
+    #[test]
+    fn a_room_takes_as_many_as_it_says(rt: HostRuntime) -> Result<(), Fail> {
+        let mut room: Room<u32, 3> = Room::new(rt.alloc())?;
+        assert!(rt; room.is_empty());
+        room.put(4);
+        room.put(5);
+        assert!(rt; !room.is_full());
+        room.put(6);
+        assert!(rt; room.is_full());
+        assert_eq!(rt; room.len(), 3);
+        assert_eq!(rt; room.get(2), Some(&6));
+        *room.item_mut(2) = 9;
+        for item in room.as_mut_slice() {
+            *item ^= 1;
+        }
+        assert_eq!(rt; room.as_slice(), [5, 4, 8].as_slice());
+        room.retain(|item| *item != 4);
+        assert_eq!(rt; room.pop(), Some(8));
+        assert_eq!(rt; room.len(), 1);
+        assert_eq!(rt; room.remove(0), 5);
+        assert!(rt; room.into_vec().is_empty());
+        Ok(())
+    }
+}
