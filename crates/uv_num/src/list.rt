@@ -173,28 +173,35 @@ mod tests {
         assert!(rt; list.is_empty());
         list.push(4u32)?;
         list.push(5)?;
-        list.push(6)?;
-        assert_eq!(rt; list.len(), 3);
-        assert_eq!(rt; list.get(1), Some(&5));
-        assert_eq!(rt; list.get(3), None);
-        *list.item_mut(1) = 9;
-        for item in list.as_mut_slice() {
-            *item ^= 1;
-        }
-        assert_eq!(rt; list.as_slice(), [5, 8, 7].as_slice());
-        list.retain(|item| *item != 7);
         assert_eq!(rt; list.len(), 2);
-        assert_eq!(rt; list.remove(0), 5);
+        assert_eq!(rt; list.get(1), Some(&5));
+        assert_eq!(rt; list.get(2), None);
         assert_eq!(rt; list.clone()?, list);
-        assert_eq!(rt; list.into_vec().as_slice(), [8].as_slice());
         Ok(())
     }
 
     #[test]
-    fn a_list_is_made_of_copies_or_of_a_vector(rt: HostRuntime) -> Result<(), Fail> {
+    fn a_list_is_changed_in_place(rt: HostRuntime) -> Result<(), Fail> {
+        let mut list = List::from_vec([4u32, 5, 6].to_vec(rt.alloc())?);
+        *list.item_mut(1) = 9;
+        list.as_mut_slice().reverse();
+        assert_eq!(rt; list.as_slice(), [6, 9, 4].as_slice());
+        Ok(())
+    }
+
+    #[test]
+    fn a_list_gives_items_up(rt: HostRuntime) -> Result<(), Fail> {
+        let mut list = List::from_vec([4u32, 5, 6].to_vec(rt.alloc())?);
+        assert_eq!(rt; list.remove(0), 4);
+        list.retain(|item| *item != 6);
+        assert_eq!(rt; list.into_vec().as_slice(), [5].as_slice());
+        Ok(())
+    }
+
+    #[test]
+    fn a_list_is_made_of_copies(rt: HostRuntime) -> Result<(), Fail> {
         let list = List::filled(rt.alloc(), 7u8, 3)?;
         assert_eq!(rt; list.as_slice(), [7, 7, 7].as_slice());
-        assert_eq!(rt; List::from_vec([7u8; 3].to_vec(rt.alloc())?), list);
         Ok(())
     }
 }

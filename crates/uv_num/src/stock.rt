@@ -164,24 +164,44 @@ mod tests {
     fn a_stock_counts_its_room(rt: HostRuntime) -> Result<(), Fail> {
         let mut stock = Stock::new(rt.alloc());
         assert!(rt; stock.is_empty());
-        assert_eq!(rt; stock.room(), 0);
         stock.widen(2)?;
         stock.widen(1)?;
         stock.put(4u32);
-        stock.put(5);
-        assert_eq!(rt; stock.room(), 1);
-        assert_eq!(rt; stock.len(), 2);
-        assert_eq!(rt; stock.get(0), Some(&4));
-        *stock.item_mut(0) = 9;
-        for item in stock.as_mut_slice() {
-            *item ^= 1;
-        }
-        assert_eq!(rt; stock.as_slice(), [8, 4].as_slice());
-        stock.retain(|item| *item != 4);
+        assert_eq!(rt; stock.room(), 2);
         assert_eq!(rt; stock.len(), 1);
-        assert_eq!(rt; stock.remove(0), 8);
+        assert_eq!(rt; stock.get(0), Some(&4));
+        Ok(())
+    }
+
+    #[test]
+    fn a_stock_is_as_before_where_there_is_no_memory(rt: HostRuntime) -> Result<(), Fail> {
+        let mut stock: Stock<u32> = Stock::new(rt.alloc());
+        stock.widen(2)?;
         assert!(rt; stock.widen(usize::MAX).is_err());
-        assert_eq!(rt; stock.room(), 1);
+        assert_eq!(rt; stock.room(), 2);
+        Ok(())
+    }
+
+    #[test]
+    fn a_stock_is_changed_in_place(rt: HostRuntime) -> Result<(), Fail> {
+        let mut stock = Stock::new(rt.alloc());
+        stock.widen(2)?;
+        stock.put(4u32);
+        stock.put(5);
+        *stock.item_mut(1) = 9;
+        stock.as_mut_slice().reverse();
+        assert_eq!(rt; stock.as_slice(), [9, 4].as_slice());
+        Ok(())
+    }
+
+    #[test]
+    fn a_stock_gives_items_up(rt: HostRuntime) -> Result<(), Fail> {
+        let mut stock = Stock::new(rt.alloc());
+        stock.widen(2)?;
+        stock.put(4u32);
+        stock.put(5);
+        assert_eq!(rt; stock.remove(0), 4);
+        stock.retain(|item| *item != 5);
         assert!(rt; stock.into_vec().is_empty());
         Ok(())
     }
