@@ -74,10 +74,20 @@ found_at : {X : Type 0} (P : X → Type 0) (p : X → Bool) (b : Bool) (xs : Lis
 found_at {X} P p true xs x y is here later = let same : y ≡ x = cc in let Q : X → Type 0 = λ v. P v in subst Q same here
 found_at P p false xs x y is here later = later is
 
+-- the front item passes where it is the one found, and else one behind it is
+passes_at : {X : Type 0} (p : X → Bool) (b : Bool) (xs : List X) (x y : X) → p y ≡ b → (if b then Some y else find p xs) ≡ Some x → (find p xs ≡ Some x → p x ≡ true) → p x ≡ true
+passes_at p true xs x y here is later = let same : y ≡ x = cc in ap p (sym same) ∙ here
+passes_at p false xs x y here is later = later is
+
 -- the first item that passes a test
 pub Each_found : {X : Type 0} (P : X → Type 0) (p : X → Bool) (xs : List X) (x : X) → find p xs ≡ Some x → Each P xs → P x
 Each_found P p [] x is each = cc
 Each_found P p (y ∷ xs) x is each = found_at P p (p y) xs x y is each.0 (λ later. Each_found P p xs x later each.1)
+
+-- the first item that passes a test passes it
+pub find_passes : {X : Type 0} (p : X → Bool) (xs : List X) (x : X) → find p xs ≡ Some x → p x ≡ true
+find_passes p [] x is = cc
+find_passes p (y ∷ xs) x is = passes_at p (p y) xs x y refl is (λ later. find_passes p xs x later)
 
 -- a fact of each place is one of each item
 pub Each_from_items : {X : Type 0} (P : X → Type 0) (xs : List X) → ((at : ℕ) (x : X) → slice_get xs at ≡ Some x → P x) → Each P xs

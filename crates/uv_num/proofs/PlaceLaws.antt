@@ -1,8 +1,10 @@
 -- Laws of changes at one place.
-use Rattle.std.proofs.Common.{◌≡◌, ◌≢◌, ℕ, zero, suc, ◌+◌, ◌<◌, ◌≤◌, Bool, true, false, List, [], ◌∷◌, ◌++◌, length, Option, Some, None, refl, ap, sym, ◌∙◌, subst, ◌⊎◌, inl, inr}
+use Rattle.std.proofs.Common.{get_or, set, ◌+◌, ◌≡◌, ◌≢◌, ℕ, zero, suc, ◌<◌, ◌≤◌, Bool, true, false, List, [], ◌∷◌, ◌++◌, length, Option, Some, None, refl, ap, sym, ◌∙◌, subst, ◌⊎◌, inl, inr}
+use Rattle.std.proofs.lemmas.Option.{get_or_from_slice_get, slice_get_within}
+use Rattle.std.proofs.lemmas.List.Sums.{sum_by-set}
 use Rattle.std.proofs.lemmas.Bool.{eq-eqb}
 use Rattle.std.proofs.lemmas.Bool.Decides.{eqb_tells}
-use Rattle.std.specs.Prelude.{slice_get, slice_set, option_map, if◌then◌else◌, ◌==◌}
+use Rattle.std.specs.Prelude.{sum_by, map, slice_get, slice_set, option_map, if◌then◌else◌, ◌==◌}
 use Rattle.uv_num.specs.Place.{at_place, changed_item, changed}
 
 -- a change at a place inside the list is a write there
@@ -48,6 +50,20 @@ at_place-at_place (x ∷ xs) zero f g = refl
 at_place-at_place (x ∷ xs) (suc at) f g =
     ap (λ v. at_place v (suc at) g) (at_place-cons x xs at f)
     ∙ (at_place-cons x (at_place xs at f) at g ∙ (ap (λ v. x ∷ v) (at_place-at_place xs at f g) ∙ sym (at_place-cons x xs at (λ y. g (f y)))))
+
+-- a sum after a change at a place
+pub sum_by-at_place : {X : Type 0} (g : X → ℕ) (xs : List X) (at : ℕ) (f : X → X) (x : X) → slice_get xs at ≡ Some x → sum_by g (at_place xs at f) + g x ≡ sum_by g xs + g (f x)
+sum_by-at_place g xs at f x is =
+    let read : get_or xs at x ≡ x = get_or_from_slice_get xs at x x is in
+    ap (λ v. sum_by g v + g x) (at_place_write xs at f x is)
+    ∙ (ap (λ v. sum_by g (set xs at (f x)) + g v) (sym read) ∙ sum_by-set g xs at (f x) x (slice_get_within xs at x is))
+
+-- what a function reads of each item, after a change that leaves it as it was
+pub map-at_place : {X Y : Type 0} (g : X → Y) (xs : List X) (at : ℕ) (f : X → X) → ((x : X) → g (f x) ≡ g x) → map g (at_place xs at f) ≡ map g xs
+map-at_place g [] at f keeps = refl
+map-at_place g (x ∷ xs) zero f keeps = ap (λ v. v ∷ map g xs) (keeps x)
+map-at_place g (x ∷ xs) (suc at) f keeps =
+    ap (λ v. map g v) (at_place-cons x xs at f) ∙ ap (λ v. g x ∷ v) (map-at_place g xs at f keeps)
 
 -- a changed function at the number that was changed
 pub changed_same : {X : Type 0} (f : ℕ → X) (at : ℕ) (value : X) → changed f at value at ≡ value

@@ -91,6 +91,26 @@ impl Bytes {
         }
     }
 
+    /// Puts a piece behind the bytes, for which there is spare. It takes no memory.
+    pub fn put_all(&mut self, piece: &[u8])
+        requires { length piece.now ≤ self.old.spare }
+        ensures bytes { self.new.bytes ≡ self.old.bytes ++ piece.now }
+        ensures spare { self.old.spare ≤ self.new.spare + length piece.now }
+    {
+        match self.items.extend_from_slice(piece) {
+            Ok(()) => {}
+            Err(_) => unreachable!(),
+        }
+    }
+
+    /// Lets all bytes go. They become spare.
+    pub fn clear(&mut self)
+        ensures bytes { self.new.bytes ≡ [] }
+        ensures spare { self.old.spare ≤ self.new.spare }
+    {
+        self.items.clear();
+    }
+
     /// Puts a byte behind the others. On an error the bytes are as they were.
     pub fn push(&mut self, byte: u8) -> Result<(), AllocError>
         ensures ok { OnOk result (self.new.bytes ≡ self.old.bytes ++ byte ∷ []) }
@@ -105,7 +125,8 @@ impl Bytes {
         ensures ok { OnOk result (self.new.bytes ≡ self.old.bytes ++ piece.now) }
         ensures err { OnErr result (self.new.bytes ≡ self.old.bytes) }
     {
-        self.items.extend_from_slice(piece)
+        self.items.extend_from_slice(piece)?;
+        Ok(())
     }
 }
 
@@ -126,8 +147,17 @@ mod tests {
         }
         assert_eq!(rt; bytes.len(), 4);
         assert_eq!(rt; bytes.as_slice(), [9, 10, 11, 12].as_slice());
-        let again = Bytes::from_vec(bytes.into_vec());
-        assert_eq!(rt; again.len(), 4);
+        Ok(())
+    }
+
+    #[test]
+    fn bytes_are_put_into_their_spare(rt: HostRuntime) -> Result<(), Fail> {
+        let mut bytes = Bytes::with_room(rt.alloc(), 3)?;
+        bytes.put_all(&[7, 8]);
+        let mut again = Bytes::from_vec(bytes.into_vec());
+        assert_eq!(rt; again.len(), 2);
+        again.clear();
+        assert!(rt; again.is_empty());
         Ok(())
     }
 }

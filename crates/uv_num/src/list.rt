@@ -1,6 +1,6 @@
 //! Lists that grow.
 
-ghost use Rattle.std.specs.Prelude.{◌≡◌, [], ◌∷◌, ◌++◌, ◌<◌, ◌==◌, length, slice_get, remove, replicate, IfOk, OnOk, OnErr};
+ghost use Rattle.std.specs.Prelude.{◌≡◌, [], ◌∷◌, ◌++◌, ◌<◌, ◌==◌, length, slice_get, remove, replicate, IfOk, OnOk, OnErr, IsSome, ◌↔◌, option_to_list};
 ghost use Rattle.std.specs.Option.{option_copied};
 ghost use Rattle.std.specs.List.{AllZip};
 ghost use Rattle.std.specs.List.Retain.{IsFiltered};
@@ -120,6 +120,14 @@ impl<T> List<T> {
         &mut self.items[at]
     }
 
+    /// Takes the last item out, if there is one.
+    pub fn pop(&mut self) -> Option<T>
+        ensures items { self.old ≡ self.new ++ option_to_list result }
+        ensures some { IsSome result ↔ (0 < length self.old) }
+    {
+        self.items.pop()
+    }
+
     /// Takes the item at a place out.
     pub fn remove(&mut self, at: usize) -> T
         requires { at < length self.old }
@@ -140,6 +148,13 @@ impl<T: Drop> List<T> {
         Ok(())
     }
 
+    /// Lets all items go. The memory stays.
+    pub fn clear(&mut self)
+        ensures { self.new ≡ [] }
+    {
+        self.items.clear();
+    }
+
     /// Keeps the items that a test passes, in their order.
     pub fn retain<F: FnMut(&T) -> bool>(&mut self, f: F)
         requires { F.IsAlwaysCallable f }
@@ -150,6 +165,23 @@ impl<T: Drop> List<T> {
 }
 
 impl<T: Copy> List<T> {
+    /// A list of a slice's items.
+    pub fn from_slice(alloc: Global, piece: &[T]) -> Result<List<T>, AllocError>
+        ensures { IfOk result (λ xs. xs ≡ piece.now) }
+    {
+        Ok(List {
+            items: Vec::from_slice(alloc, piece)?,
+        })
+    }
+
+    /// Puts a slice's items behind the others. On an error the list is as it was.
+    pub fn extend(&mut self, piece: &[T]) -> Result<(), AllocError>
+        ensures ok { OnOk result (self.new ≡ self.old ++ piece.now) }
+        ensures err { OnErr result (self.new ≡ self.old) }
+    {
+        self.items.extend_from_slice(piece)
+    }
+
     /// A list of one item so many times.
     pub fn filled(alloc: Global, item: T, count: usize) -> Result<List<T>, AllocError>
         ensures { IfOk result (λ xs. xs ≡ replicate count item) }
@@ -200,8 +232,12 @@ mod tests {
 
     #[test]
     fn a_list_is_made_of_copies(rt: HostRuntime) -> Result<(), Fail> {
-        let list = List::filled(rt.alloc(), 7u8, 3)?;
-        assert_eq!(rt; list.as_slice(), [7, 7, 7].as_slice());
+        let mut list = List::filled(rt.alloc(), 7u8, 2)?;
+        list.extend(&[8])?;
+        assert_eq!(rt; list, List::from_slice(rt.alloc(), &[7, 7, 8])?);
+        assert_eq!(rt; list.pop(), Some(8));
+        list.clear();
+        assert!(rt; list.is_empty());
         Ok(())
     }
 }

@@ -132,6 +132,13 @@ impl<T: Drop, const MOST: usize> Room<T, MOST> {
         }
     }
 
+    /// Lets all items go.
+    pub fn clear(&mut self)
+        ensures { self.new ≡ [] }
+    {
+        self.items.clear();
+    }
+
     /// Keeps the items that a test passes, in their order.
     pub fn retain<F: FnMut(&T) -> bool>(&mut self, f: F)
         requires { F.IsAlwaysCallable f }
@@ -178,6 +185,7 @@ mod tests {
         assert_eq!(rt; room.remove(0), 4);
         assert_eq!(rt; room.pop(), Some(5));
         room.retain(|item| *item != 6);
+        room.clear();
         assert!(rt; room.into_vec().is_empty());
         Ok(())
     }
