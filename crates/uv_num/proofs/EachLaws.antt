@@ -1,8 +1,8 @@
 -- Laws of what is true of each item of a list.
-use Rattle.std.proofs.Common.{◌≡◌, ℕ, zero, suc, Bool, true, false, List, [], ◌∷◌, ◌++◌, Option, Some, None, take, drop, map, replicate, refl, ap, sym, ◌∙◌, subst}
+use Rattle.std.proofs.Common.{◌≡◌, ℕ, zero, suc, Bool, true, false, List, [], ◌∷◌, ◌++◌, Some, take, drop, map, replicate, refl, ap, sym, ◌∙◌, subst}
 use Rattle.std.specs.Prelude.{slice_get, slice_set, filter, find, remove, if◌then◌else◌}
 use Rattle.uv_num.specs.Each.{Each}
-use Rattle.uv_num.specs.Place.{at_place, changed_item}
+use Rattle.uv_num.specs.Place.{at_place}
 use Rattle.uv_num.specs.Prefix.{IsPrefix}
 use Rattle.uv_num.proofs.PlaceLaws.{at_place-cons}
 

@@ -1,10 +1,10 @@
 -- Laws of changes at one place.
-use Rattle.std.proofs.Common.{get_or, set, ◌+◌, ◌≡◌, ◌≢◌, ℕ, zero, suc, ◌<◌, ◌≤◌, Bool, true, false, List, [], ◌∷◌, ◌++◌, length, Option, Some, None, refl, ap, sym, ◌∙◌, subst, ◌⊎◌, inl, inr}
+use Rattle.std.proofs.Common.{get_or, set, ◌+◌, ◌≡◌, ◌≢◌, ℕ, zero, suc, List, [], ◌∷◌, length, Option, Some, None, refl, ap, sym, ◌∙◌, subst, inl, inr}
 use Rattle.std.proofs.lemmas.Option.{get_or_from_slice_get, slice_get_within}
 use Rattle.std.proofs.lemmas.List.Sums.{sum_by-set}
 use Rattle.std.proofs.lemmas.Bool.{eq-eqb}
 use Rattle.std.proofs.lemmas.Bool.Decides.{eqb_tells}
-use Rattle.std.specs.Prelude.{sum_by, map, slice_get, slice_set, option_map, if◌then◌else◌, ◌==◌}
+use Rattle.std.specs.Prelude.{sum_by, map, slice_get, slice_set, option_map, if◌then◌else◌}
 use Rattle.uv_num.specs.Place.{at_place, changed_item, changed}
 
 -- a change at a place inside the list is a write there

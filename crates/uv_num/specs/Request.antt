@@ -1,5 +1,4 @@
 -- What each request does to the object graph: a row for each request.
-use Rattle.std.specs.Prelude.{ℕ}
 use Rattle.uv_num.specs.declared.kind.Kind.TheVariants.{Pd}
 use Rattle.uv_num.specs.declared.request.Request.{Request}
 use Rattle.uv_num.specs.declared.request.Request.TheVariants.{AllocPd, DeallocPd}
