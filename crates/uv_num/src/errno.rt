@@ -12,7 +12,7 @@ pub enum Errno {
     Io,
     /// The file isn't open.
     BadF,
-    /// Nothing is there yet.
+    /// Nothing is there now, and a later try may find something.
     Again,
     /// Memory ran out.
     NoMem,
@@ -20,11 +20,11 @@ pub enum Errno {
     Busy,
     /// An argument is wrong.
     Inval,
-    /// No number or cell is free.
+    /// No handle or no cell is free.
     NoSpc,
-    /// An attribute that must be understood isn't known.
+    /// The command names an object, a method or a mandatory attribute that isn't known.
     ProtoNoSupport,
-    /// The object's state doesn't allow the request.
+    /// What is asked for isn't supported.
     OpNotSupp,
 }
 
