@@ -7,7 +7,7 @@ pub const NONE: u32 = 4_294_967_295;
 pub const KINDS: usize = 8;
 
 /// The devices that a machine has, numbered from 0.
-pub const DEVICES: u32 = 2;
+pub const DEVICES: usize = 2;
 
 /// The clients, numbered 1 to `CLIENTS`.
 pub const CLIENTS: u32 = 8;
