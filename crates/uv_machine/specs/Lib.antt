@@ -1,0 +1,13 @@
+pub mod Calls
+pub mod Cells
+pub mod Effects
+pub mod Histories
+pub mod Objects
+pub mod Outside
+pub mod Plans
+pub mod States
+pub mod Steps
+pub mod Accounts
+pub mod Laws
+pub mod Reached
+pub mod Marking

@@ -1,0 +1,363 @@
+//! What an entry makes of the state.
+
+ghost use Rattle.std.specs.Prelude.{◌≡◌, ◌<◌, length, filter, map, slice_get};
+ghost use Rattle.uv_num.specs.Place.{at_place};
+ghost use Rattle.uv_machine.specs.Plans.{entered, with_refusal, without_number};
+ghost use Rattle.uv_machine.specs.Effects.{refusal_in, left, with_object, with_pool, with_burial, not_with_id, without_object, reserve, next_id, new_object, with_new, generation_in, made_outcome, make_at, make, commit, lock, check, buried_if_doomed, finish, stepped, with_call, after_step, with_file, opened, in_phase, gone_from, not_in_file, after_open, after_enter, after_closed};
+ghost use Rattle.uv_machine.specs.Cells.{drawn, buried_at};
+ghost use Rattle.uv_num.specs.Request.{role_of};
+ghost use Rattle.uv_num.specs.Kind.{kind_place};
+ghost use Rattle.uv_machine.specs.Objects.{no_ids};
+ghost use Rattle.uv_machine.specs.States.{call_of, object_with};
+ghost use Rattle.uv_machine.specs.declared.entry.Word.TheVariants.{Make};
+ghost use Rattle.uv_machine.specs.Histories.{after};
+ghost use Rattle.uv_machine.specs.Laws.{HasRoom};
+
+use crate::call::InFlight;
+use crate::entry::{Answer, Entry, Word};
+use crate::file::{File, FilePhase};
+use crate::object::{Change, Object, Phase, change_object};
+use crate::pool::Pool;
+use crate::state::State;
+use crate::table;
+use uv_num::{Errno, Ids, Kind, MOST_OBJECTS, NONE, Request, Role, Room};
+
+impl Answer {
+    /// The errno of a refusal.
+    pub fn refusal(self) -> Option<Errno>
+        ensures { result ≡ refusal_in self }
+    {
+        match self {
+            Answer::Refused(errno) => Some(errno),
+            Answer::Ok | Answer::Made { .. } | Answer::Kept(_) => None,
+        }
+    }
+}
+
+/// The steps of calls.
+impl State {
+    fn refuse(&mut self, actor: u32, errno: Errno)
+        ensures { self.new ≡ with_call self.old actor (with_refusal errno) }
+    {
+        table::refuse(&mut self.calls, actor as usize, errno);
+    }
+
+    fn leave(&mut self, actor: u32)
+        ensures { self.new ≡ left self.old actor }
+    {
+        table::leave(&mut self.calls, actor as usize);
+    }
+
+    fn reserve(&mut self, actor: u32, call: InFlight)
+        ensures { self.new ≡ reserve self.old actor call }
+    {
+        let number = self.least_free(call.file);
+        table::set_aside(&mut self.calls, actor as usize, number);
+    }
+
+    fn make(&mut self, actor: u32, call: InFlight)
+        requires { length self.old.objects < MOST_OBJECTS }
+        ensures { self.new ≡ make self.old actor call (role_of call.request) }
+    {
+        match call.request.role() {
+            Role::Creates(kind) => self.make_at(actor, call, kind, self.home_cell(kind)),
+            Role::Destroys(_) => {}
+        }
+    }
+
+    fn make_at(&mut self, actor: u32, call: InFlight, kind: Kind, index: Option<u32>)
+        requires { length self.old.objects < MOST_OBJECTS }
+        ensures { self.new ≡ make_at self.old actor call kind index }
+    {
+        if let Some(index) = index {
+            let x = self.new_object(call, kind, index);
+            self.put_new(actor, x);
+        }
+    }
+
+    fn new_object(&self, call: InFlight, kind: Kind, index: u32) -> Object
+        ensures { result ≡ new_object self.now call kind index (generation_in index (slice_get self.now.pools (kind_place kind))) }
+    {
+        Object {
+            id: self.made,
+            kind,
+            file: call.file,
+            handle: call.reserved.unwrap_or(NONE),
+            request: call.request,
+            uses: no_ids(),
+            index,
+            generation: self.pools[kind.place()].generation(index),
+            phase: Phase::Made,
+        }
+    }
+
+    fn put_new(&mut self, actor: u32, x: Object)
+        requires { length self.old.objects < MOST_OBJECTS }
+        ensures { self.new ≡ with_new self.old actor x }
+    {
+        self.objects.put(x);
+        self.made = next_id(self.made);
+        draw(&mut self.pools, x.kind.place(), x.index);
+        table::take_made(&mut self.calls, actor as usize, x.id, made_outcome(x));
+    }
+
+    fn change(&mut self, id: u32, change: Change)
+        ensures { self.new ≡ with_object self.old id change }
+    {
+        change_object(self.objects.as_mut_slice(), id, change);
+    }
+
+    fn bury(&mut self, x: Object)
+        ensures { self.new ≡ with_burial self.old x }
+    {
+        bury(&mut self.pools, x.kind.place(), x.index);
+    }
+
+    fn remove(&mut self, id: u32)
+        ensures { self.new ≡ without_object self.old id }
+    {
+        remove_object(&mut self.objects, id);
+    }
+
+    fn commit(&mut self, actor: u32, id: u32)
+        ensures { self.new ≡ commit self.old actor id }
+    {
+        self.change(id, Change::ToLive);
+        table::unlock(&mut self.calls, actor as usize);
+    }
+
+    fn lock(&mut self, actor: u32, id: u32)
+        ensures { self.new ≡ lock self.old actor id }
+    {
+        table::lock(&mut self.calls, actor as usize, id);
+    }
+
+    fn check(&mut self, actor: u32, id: u32)
+        ensures { self.new ≡ check self.old actor id }
+    {
+        self.change(id, Change::ToDoomed);
+        table::move_on(&mut self.calls, actor as usize);
+    }
+
+    fn bury_if_doomed(&mut self, x: Option<Object>)
+        ensures { self.new ≡ buried_if_doomed self.old x }
+    {
+        if let Some(x) = x {
+            if x.phase.is_doomed() {
+                self.bury(x);
+            }
+        }
+    }
+
+    fn finish(&mut self, actor: u32, id: u32)
+        ensures { self.new ≡ finish self.old actor id }
+    {
+        self.bury_if_doomed(self.object_with(id));
+        self.remove(id);
+        table::unlock(&mut self.calls, actor as usize);
+    }
+
+    fn give_back(&mut self, actor: u32)
+        ensures { self.new ≡ with_call self.old actor without_number }
+    {
+        table::give_back(&mut self.calls, actor as usize);
+    }
+
+    fn go_fine(&mut self, actor: u32, call: InFlight, word: Word, id: u32)
+        requires { word ≡ Make → length self.old.objects < MOST_OBJECTS }
+        ensures { self.new ≡ stepped self.old actor call word id None }
+    {
+        match word {
+            Word::Reserve => self.reserve(actor, call),
+            Word::Make => self.make(actor, call),
+            Word::Commit => self.commit(actor, id),
+            Word::Lock => self.lock(actor, id),
+            Word::Check => self.check(actor, id),
+            Word::Finish => self.finish(actor, id),
+            Word::Abort => self.give_back(actor),
+            Word::Exit => self.leave(actor),
+        }
+    }
+
+    fn go_refused(&mut self, actor: u32, call: InFlight, word: Word, id: u32, errno: Errno)
+        ensures { self.new ≡ stepped self.old actor call word id (Some errno) }
+    {
+        match word {
+            Word::Reserve
+            | Word::Make
+            | Word::Commit
+            | Word::Lock
+            | Word::Check
+            | Word::Finish
+            | Word::Abort => self.refuse(actor, errno),
+            Word::Exit => self.leave(actor),
+        }
+    }
+
+    fn step(&mut self, actor: u32, call: InFlight, word: Word, id: u32, refusal: Option<Errno>)
+        requires { refusal ≡ None → word ≡ Make → length self.old.objects < MOST_OBJECTS }
+        ensures { self.new ≡ stepped self.old actor call word id refusal }
+    {
+        match refusal {
+            None => self.go_fine(actor, call, word, id),
+            Some(errno) => self.go_refused(actor, call, word, id, errno),
+        }
+    }
+}
+
+fn no_ids() -> Ids
+    ensures { result ≡ no_ids }
+{
+    Ids::Empty
+}
+
+fn made_outcome(x: Object) -> Answer
+    ensures { result ≡ made_outcome x }
+{
+    Answer::Made {
+        handle: x.handle,
+        index: x.index,
+        generation: x.generation,
+    }
+}
+
+fn next_id(id: u32) -> u32
+    ensures { result ≡ next_id id }
+{
+    if id == NONE { id } else { id + 1 }
+}
+
+fn remove_object(objects: &mut Room<Object, MOST_OBJECTS>, id: u32)
+    ensures { objects.new ≡ filter (not_with_id id) objects.old }
+{
+    objects.retain(move |x| x.id != id);
+}
+
+fn remove_file(objects: &mut Room<Object, MOST_OBJECTS>, file: u32)
+    ensures { objects.new ≡ filter (not_in_file file) objects.old }
+{
+    objects.retain(move |x| x.file != file);
+}
+
+fn draw(pools: &mut [Pool], at: usize, index: u32)
+    ensures { pools.new ≡ at_place pools.old at (drawn index) }
+{
+    if at < pools.len() {
+        pools[at].draw(index);
+    }
+}
+
+fn bury(pools: &mut [Pool], at: usize, index: u32)
+    ensures { pools.new ≡ at_place pools.old at (buried_at index) }
+{
+    if at < pools.len() {
+        pools[at].bury(index);
+    }
+}
+
+fn open_at(files: &mut [File], at: usize, client: u32, device: u32)
+    ensures { files.new ≡ at_place files.old at (opened client device) }
+{
+    if at < files.len() {
+        files[at] = File {
+            phase: FilePhase::Open,
+            device,
+            client,
+        };
+    }
+}
+
+fn set_phase(files: &mut [File], at: usize, phase: FilePhase)
+    ensures { files.new ≡ at_place files.old at (in_phase phase) }
+{
+    if at < files.len() {
+        files[at].phase = phase;
+    }
+}
+
+/// The entries that no call makes.
+impl State {
+    fn open(&mut self, client: u32, file: u32, device: u32, answer: Answer)
+        ensures { self.new ≡ after_open self.old client file device answer }
+    {
+        if answer.refusal().is_none() {
+            open_at(&mut self.files, file as usize, client, device);
+        }
+    }
+
+    fn enter(&mut self, client: u32, file: u32, request: Request, answer: Answer)
+        ensures { self.new ≡ after_enter self.old client file (entered file request) answer }
+    {
+        if answer.refusal().is_none() {
+            table::put(
+                &mut self.calls,
+                client as usize,
+                InFlight::entered(file, request),
+            );
+        }
+    }
+
+    fn note_step(&mut self, actor: u32, word: Word, id: u32, answer: Answer)
+        requires { refusal_in answer ≡ None → word ≡ Make → length self.old.objects < MOST_OBJECTS }
+        ensures { self.new ≡ after_step self.old actor (call_of self.old actor) word id answer }
+    {
+        if let Some(call) = self.call_of(actor) {
+            self.step(actor, call, word, id, answer.refusal());
+        }
+    }
+
+    fn phase(&mut self, file: u32, phase: FilePhase)
+        ensures { self.new ≡ with_file self.old file (in_phase phase) }
+    {
+        set_phase(&mut self.files, file as usize, phase);
+    }
+
+    fn release(&mut self, id: u32)
+        ensures { self.new ≡ gone_from self.old id (object_with self.old id) }
+    {
+        if let Some(x) = self.object_with(id) {
+            self.change(id, Change::ToHusk);
+            self.bury(x);
+        }
+    }
+
+    fn close(&mut self, file: u32)
+        ensures { self.new ≡ after_closed self.old file }
+    {
+        set_phase(&mut self.files, file as usize, FilePhase::Closed);
+        remove_file(&mut self.objects, file);
+    }
+
+    /// Makes the whole effect of an entry. It takes no memory: a Make that is accepted must find room, as it does in
+    /// every legal history.
+    pub fn apply(&mut self, entry: Entry)
+        requires { HasRoom self.old entry }
+        ensures { self.new ≡ after self.old entry }
+    {
+        match entry {
+            Entry::Open {
+                client,
+                file,
+                device,
+                answer,
+            } => self.open(client, file, device, answer),
+            Entry::Enter {
+                client,
+                file,
+                request,
+                answer,
+            } => self.enter(client, file, request, answer),
+            Entry::Step {
+                client,
+                word,
+                object,
+                answer,
+                ..
+            } => self.note_step(client, word, object, answer),
+            Entry::Tear { file, by } => self.phase(file, FilePhase::Tearing { by }),
+            Entry::Kill { object } => self.change(object, Change::ToDoomed),
+            Entry::Gone { object, .. } => self.release(object),
+            Entry::Closed { file } => self.close(file),
+        }
+    }
+}

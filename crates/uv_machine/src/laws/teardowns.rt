@@ -1,0 +1,43 @@
+//! Laws on the teardown of a file, once no call is in flight.
+
+ghost use Rattle.uv_machine.specs.Laws.{SweepBegins, SweepKills, SweepReleases, SweepGoesOn, SweepEnds, SweepShows, OpenIsOpen, PhasesStandApart};
+
+/// A tear of an open file begins a sweep.
+pub fn sweep_begins()
+    ensures { SweepBegins }
+{}
+
+/// While an object can go, it may be killed.
+pub fn sweep_kills()
+    ensures { SweepKills }
+{}
+
+/// What was killed stands doomed in its file, and is else as it was.
+pub fn sweep_shows()
+    ensures { SweepShows }
+{}
+
+/// What was killed may go.
+pub fn sweep_releases()
+    ensures { SweepReleases }
+{}
+
+/// A kill and its release leave fewer objects standing.
+pub fn sweep_goes_on()
+    ensures { SweepGoesOn }
+{}
+
+/// When no object can go the file may be closed.
+pub fn sweep_ends()
+    ensures { SweepEnds }
+{}
+
+/// A file that was opened stands open.
+pub fn open_is_open()
+    ensures { OpenIsOpen }
+{}
+
+/// Calls, and the kills and releases of objects, leave every file's phase as it was.
+pub fn phases_stand_apart()
+    ensures { PhasesStandApart }
+{}

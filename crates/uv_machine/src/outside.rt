@@ -1,0 +1,179 @@
+//! The outside rule: when the entries may come that no call makes by itself.
+
+ghost use Rattle.std.specs.Prelude.{◌≡◌, ◌↔◌, IsTrue};
+ghost use Rattle.uv_machine.specs.Outside.{MayAnswer, open_refusal, needs_device, enter_refusal, may_tear, is_swept, is_object, may_kill_in, may_kill_object, may_kill, may_go_object, may_go, may_close};
+ghost use Rattle.uv_machine.specs.States.{is_fresh, is_open, is_callable, is_tearing, is_closing};
+
+use crate::entry::Answer;
+use crate::file::FilePhase;
+use crate::object::Object;
+use crate::state::State;
+use uv_num::{DRIVER, Errno, Request, Role};
+
+impl FilePhase {
+    /// Whether the file was never opened.
+    pub fn is_fresh(self) -> bool
+        ensures { result ≡ is_fresh self }
+    {
+        match self {
+            FilePhase::Fresh => true,
+            FilePhase::Open
+            | FilePhase::Tearing { .. }
+            | FilePhase::Dissociated
+            | FilePhase::Closed => false,
+        }
+    }
+
+    /// Whether the file is open.
+    pub fn is_open(self) -> bool
+        ensures { result ≡ is_open self }
+    {
+        match self {
+            FilePhase::Open => true,
+            FilePhase::Fresh
+            | FilePhase::Tearing { .. }
+            | FilePhase::Dissociated
+            | FilePhase::Closed => false,
+        }
+    }
+
+    /// Whether calls may enter on the file.
+    pub fn is_callable(self) -> bool
+        ensures { result ≡ is_callable self }
+    {
+        match self {
+            FilePhase::Open | FilePhase::Dissociated => true,
+            FilePhase::Fresh | FilePhase::Tearing { .. } | FilePhase::Closed => false,
+        }
+    }
+
+    /// Whether an actor is tearing the file down.
+    pub fn is_tearing(self) -> bool
+        ensures { result ≡ is_tearing self }
+    {
+        match self {
+            FilePhase::Tearing { .. } => true,
+            FilePhase::Fresh | FilePhase::Open | FilePhase::Dissociated | FilePhase::Closed =>
+                false,
+        }
+    }
+
+    /// Whether an actor other than the driver is tearing the file down.
+    pub fn is_closing(self) -> bool
+        ensures { result ≡ is_closing self }
+    {
+        match self {
+            FilePhase::Tearing { by } => by != DRIVER,
+            FilePhase::Fresh | FilePhase::Open | FilePhase::Dissociated | FilePhase::Closed =>
+                false,
+        }
+    }
+}
+
+impl State {
+    /// The errno with which an open of a file on a device is refused, if it is; want of memory aside.
+    pub fn open_refusal(&self, file: u32, device: u32) -> Option<Errno>
+        ensures { result ≡ open_refusal self.now file device }
+    {
+        if !self.phase_of(file).is_fresh() {
+            return Some(Errno::Inval);
+        }
+        if self.is_unplugged(device) {
+            Some(Errno::Io)
+        } else {
+            None
+        }
+    }
+
+    /// The errno with which a request on a file is refused at its enter, if it is; want of memory aside.
+    pub fn enter_refusal(&self, file: u32, request: Request) -> Option<Errno>
+        ensures { result ≡ enter_refusal self.now file request }
+    {
+        if !self.phase_of(file).is_callable() {
+            return Some(Errno::BadF);
+        }
+        if self.is_unplugged(self.device_of(file)) && needs_device(request.role()) {
+            Some(Errno::Io)
+        } else {
+            None
+        }
+    }
+
+    /// Whether an actor may begin to tear a file down.
+    pub fn may_tear(&self, file: u32, by: u32) -> bool
+        ensures { result ≡ may_tear self.now file by }
+    {
+        if by == DRIVER {
+            self.phase_of(file).is_open() && self.is_unplugged(self.device_of(file))
+        } else {
+            self.phase_of(file).is_callable()
+        }
+    }
+
+    fn is_swept(&self, file: u32) -> bool
+        ensures { result ≡ is_swept self.now file }
+    {
+        self.phase_of(file).is_tearing() && self.is_quiet(file)
+    }
+
+    fn may_kill_in(&self, id: u32, file: u32) -> bool
+        ensures { result ≡ may_kill_in self.now id file }
+    {
+        self.is_swept(file) && !self.has_doomed(file) && is_object(self.newest_free(file), id)
+    }
+
+    /// Whether a teardown may take an object out of use.
+    pub fn may_kill(&self, id: u32) -> bool
+        ensures { result ≡ may_kill self.now id }
+    {
+        match self.object_with(id) {
+            None => false,
+            Some(x) => self.may_kill_in(id, x.file),
+        }
+    }
+
+    /// Whether a teardown may release an object.
+    pub fn may_go(&self, id: u32) -> bool
+        ensures { result ≡ may_go self.now id }
+    {
+        match self.object_with(id) {
+            None => false,
+            Some(x) => x.phase.is_doomed() && self.is_swept(x.file),
+        }
+    }
+
+    /// Whether a file may be closed: all its objects are husks.
+    pub fn may_close(&self, file: u32) -> bool
+        ensures { result ≡ may_close self.now file }
+    {
+        self.phase_of(file).is_closing() && self.is_quiet(file) && !self.has_standing(file)
+    }
+}
+
+fn needs_device(role: Role) -> bool
+    ensures { result ≡ needs_device role }
+{
+    match role {
+        Role::Creates(_) => true,
+        Role::Destroys(_) => false,
+    }
+}
+
+fn is_object(x: Option<Object>, id: u32) -> bool
+    ensures { result ≡ is_object id x }
+{
+    match x {
+        None => false,
+        Some(x) => x.id == id,
+    }
+}
+
+/// Whether an entry may have this answer where it would be refused so, if at all.
+pub fn may_answer(refusal: Option<Errno>, answer: Answer) -> bool
+    ensures { IsTrue result ↔ MayAnswer refusal answer }
+{
+    match refusal {
+        Some(errno) => answer == Answer::Refused(errno),
+        None => answer == Answer::Ok || answer == Answer::Refused(Errno::NoMem),
+    }
+}

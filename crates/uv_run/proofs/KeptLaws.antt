@@ -1,0 +1,62 @@
+-- The machine with its stored history, entry by entry.
+use Rattle.std.proofs.Common.{◌≡◌, ℕ, ◌+◌, ◌-◌, ◌≤◌, ◌<◌, List, [], ◌∷◌, ◌++◌, true, refl, sym, ap, subst, ◌∙◌, arith, length}
+use Rattle.uv_num.specs.declared.limits.TheConstants.{MOST_OBJECTS}
+use Rattle.uv_machine.specs.declared.entry.Entry.{Entry}
+use Rattle.uv_machine.specs.declared.state.State.{State}
+use Rattle.uv_machine.specs.States.{start}
+use Rattle.uv_machine.specs.Cells.{full_pool}
+use Rattle.uv_machine.specs.Laws.{HasRoom}
+use Rattle.uv_machine.specs.Histories.{Allowed, after, IsLegal, state_of}
+use Rattle.uv_machine.specs.Accounts.{owed, costs}
+use Rattle.uv_run.specs.Kept.{Kept, IsKept}
+use Rattle.uv_run.proofs.MachineLaws.{state_goes_on, legal_goes_on, make_has_room, owed_covers}
+
+-- what an entry owes is covered, seen from the state beside the history
+pub covers : (m n : State) (h : List Entry) (e : Entry) → m ≡ state_of h → Allowed (state_of h) e → n ≡ after m e → owed n + 1 ≤ owed m + costs e
+covers m n h e replays allowed made =
+    let P : State → Type 0 = λ s. owed (after s e) + 1 ≤ owed s + costs e in
+    let Q : State → Type 0 = λ s. owed s + 1 ≤ owed m + costs e in
+    subst Q (sym made) (subst P (sym replays) (owed_covers (state_of h) e allowed))
+
+-- one more entry keeps the parts together
+pub kept_more : (m n : State) (h g : List Entry) (r s : ℕ) (e : Entry) → IsKept m h r → Allowed (state_of h) e → costs e ≤ r - owed m → n ≡ after m e → g ≡ h ++ e ∷ [] → s + 1 ≡ r → IsKept n g s
+kept_more m n h g r s e kept allowed room made more less =
+    let P : List Entry → Type 0 = λ v. IsKept n v s in
+    let covered : owed n + 1 ≤ owed m + costs e = covers m n h e kept.replays allowed made in
+    let before : owed m ≤ r = kept.covered in
+    subst P (sym more)
+    record {
+      replays = made ∙ ap (λ v. after v e) kept.replays ∙ sym (state_goes_on h e);
+      legal = legal_goes_on h e kept.legal allowed;
+      covered = omega (arith, covered, before, room, less);
+    }
+
+pub room_kept : (m n : State) (h : List Entry) (r s : ℕ) (e : Entry) → IsKept m h r → Allowed (state_of h) e → costs e ≤ r - owed m → n ≡ after m e → s + 1 ≡ r → r - owed m ≤ (s - owed n) + costs e
+room_kept m n h r s e kept allowed room made less =
+    let covered : owed n + 1 ≤ owed m + costs e = covers m n h e kept.replays allowed made in
+    let before : owed m ≤ r = kept.covered in
+    omega (arith, covered, before, room, less)
+
+-- there is room for an allowed entry that can be paid for
+pub room_there : (m : State) (h : List Entry) (r : ℕ) (e : Entry) → IsKept m h r → Allowed (state_of h) e → costs e ≤ r - owed m → 0 < r
+room_there m h r e kept allowed room =
+    let covered : owed (after m e) + 1 ≤ owed m + costs e = covers m (after m e) h e kept.replays allowed refl in
+    let before : owed m ≤ r = kept.covered in
+    omega (arith, covered, before, room)
+
+-- an accepted Make finds room among the objects
+pub objects_there : (m : State) (h : List Entry) (r : ℕ) (e : Entry) → IsKept m h r → Allowed (state_of h) e → HasRoom m e
+objects_there m h r e kept allowed =
+    let P : State → Type 0 = λ s. HasRoom s e in
+    subst P (sym kept.replays) (make_has_room h e kept.legal allowed)
+
+owed_start : owed start ≡ 0
+unfolding start full_pool
+owed_start = refl
+
+-- nothing is owed at the start
+pub kept_start : (m : State) (h : List Entry) (r : ℕ) → m ≡ start → h ≡ [] → IsKept m h r
+kept_start m h r fresh none =
+    let P : List Entry → Type 0 = λ v. IsKept m v r in
+    let nothing : owed m ≡ 0 = ap owed fresh ∙ owed_start in
+    subst P (sym none) record { replays = fresh; legal = tt; covered = omega (arith, nothing) }

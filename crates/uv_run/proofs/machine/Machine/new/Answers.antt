@@ -1,0 +1,5 @@
+use Rattle.uv_run.proofs.KeptLaws.{kept_start}
+use Rattle.uv_run.proofs.machine.Machine.new.Goals as goal
+
+pub invariant_of-result : goal.invariant_of-result
+invariant_of-result c = kept_start _ _ _ c.in_ok-new.ensures c.new-2.ensures.items

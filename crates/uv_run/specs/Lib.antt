@@ -1,0 +1,10 @@
+pub mod Between
+pub mod Ended
+pub mod Kept
+pub mod Numbers
+pub mod Outcome
+pub mod Playing
+pub mod Report
+pub mod Script
+pub mod Spelling
+pub mod Words

@@ -1,0 +1,94 @@
+-- What each status of a run says of the source, of the sink and of the record.
+use Rattle.std.specs.Prelude.{ℕ, ◌≡◌, ◌≤◌, ◌+◌, ◌⊎◌, List, [], Option, Some, Ok, Err, length}
+use Rattle.std.specs.Io.KnownBytes.{Appends}
+use Rattle.uv_num.specs.declared.limits.TheConstants.{SCRIPT_BYTES}
+use Rattle.uv_io.specs.Faults.{Rose}
+use Rattle.uv_io.specs.Whole.{ReadsWhole, ReadsPrefix, ReadsCount, WritesPrefix}
+use Rattle.uv_run.specs.declared.said.Line.{Line}
+use Rattle.uv_run.specs.declared.outcome.Record.{Record}
+use Rattle.uv_run.specs.Script.{script_of}
+use Rattle.uv_run.specs.Report.{report_text, fault_line, too_long_line}
+use Rattle.uv_run.specs.Playing.{Follows, gone_of}
+
+-- nothing is told
+pub record IsEmptyRecord (told : Record) : Type 0 where
+  pub history : told.history ≡ []
+  pub replies : told.replies ≡ []
+  pub left : told.left ≡ []
+
+-- the report of a record
+abbrev pub report_of : Record → List ℕ
+report_of told = report_text told.replies (length told.left) (gone_of told.history)
+
+-- a fault of the sink cut a text short: a prefix of it was written
+pub record IsCutShort (old new : Option (List ℕ)) (before now : ℕ) (text : List ℕ) : Type 0 where
+  pub fault : Rose before now
+  pub prefix : WritesPrefix old new text
+
+-- a text was written, or a fault of the sink cut it short
+abbrev pub WritesUnlessFault : Option (List ℕ) → Option (List ℕ) → ℕ → ℕ → List ℕ → Type 0
+WritesUnlessFault old new before now text = Appends old new text ⊎ IsCutShort old new before now text
+
+-- these bytes are a script, and the record follows it
+pub record RunsBytes (bytes : List ℕ) (told : Record) : Type 0 where
+  pub lines : List Line
+  pub script : script_of bytes ≡ Ok lines
+  pub follows : Follows lines told.history told.replies told.left
+
+-- all that was left was read, it is a script, and the record follows it
+pub record RunsScript (old new : Option (List ℕ)) (told : Record) : Type 0 where
+  pub bytes : List ℕ
+  pub whole : ReadsWhole old new bytes SCRIPT_BYTES
+  pub runs : RunsBytes bytes told
+
+-- the first line of bytes that is outside the grammar, if there is one, is told
+pub record TellsFault (bytes : List ℕ) (old new : Option (List ℕ)) (before now : ℕ) : Type 0 where
+  pub line : ℕ
+  pub script : script_of bytes ≡ Err line
+  pub text : WritesUnlessFault old new before now (fault_line line)
+
+-- all that was left was read, it is no script, and its first line that is outside the grammar is told
+pub record RefusesScript (old new written rewritten : Option (List ℕ)) (before now : ℕ) : Type 0 where
+  pub bytes : List ℕ
+  pub whole : ReadsWhole old new bytes SCRIPT_BYTES
+  pub tells : TellsFault bytes written rewritten before now
+
+-- status 0: the script was run, and its report was written
+pub record Reports (old new written rewritten : Option (List ℕ)) (told : Record) : Type 0 where
+  pub runs : RunsScript old new told
+  pub report : Appends written rewritten (report_of told)
+
+-- status 4: the script was run, and a fault of the sink cut its report short
+pub record ReportsCutShort (old new written rewritten : Option (List ℕ)) (before now : ℕ) (told : Record) : Type 0 where
+  pub runs : RunsScript old new told
+  pub report : IsCutShort written rewritten before now (report_of told)
+
+-- status 3: the source had a fault behind some bytes
+pub record FailsReading (old new : Option (List ℕ)) (before now : ℕ) : Type 0 where
+  pub fault : Rose before now
+  pub read : ReadsPrefix old new SCRIPT_BYTES
+
+-- status 6: a byte more than a script has was read, and it is told
+pub record RefusesLength (old new written rewritten : Option (List ℕ)) (before now : ℕ) : Type 0 where
+  pub read : ReadsCount old new (SCRIPT_BYTES + 1)
+  pub text : WritesUnlessFault written rewritten before now too_long_line
+
+-- what is left is known to be a script that isn't too long
+pub record IsScriptLeft (left : Option (List ℕ)) : Type 0 where
+  pub bytes : List ℕ
+  pub known : left ≡ Some bytes
+  pub bound : length bytes ≤ SCRIPT_BYTES
+  pub lines : List Line
+  pub script : script_of bytes ≡ Ok lines
+
+-- the script was run, or memory ran out
+abbrev pub IsRunOrNoMemory : ℕ → Type 0
+IsRunOrNoMemory status = (status ≡ 0) ⊎ (status ≡ 5)
+
+-- the statuses that are left once all bytes were read
+abbrev pub IsBytesStatus : ℕ → Type 0
+IsBytesStatus status = ((status ≡ 0) ⊎ (status ≡ 1)) ⊎ ((status ≡ 4) ⊎ (status ≡ 5))
+
+-- the statuses of a run of which the words are right
+abbrev pub IsStepsStatus : ℕ → Type 0
+IsStepsStatus status = IsBytesStatus status ⊎ ((status ≡ 3) ⊎ (status ≡ 6))

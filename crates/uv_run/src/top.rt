@@ -1,0 +1,253 @@
+//! The top call: a script is read from a source, run, and its report written to a sink.
+
+ghost use Rattle.std.specs.Prelude.{◌≡◌, ◌≢◌, ◌≤◌, ◌+◌, ◌⊎◌, length, IfOk, Ok};
+ghost use Rattle.std.specs.Io.KnownBytes.{Appends};
+ghost use Rattle.uv_num.specs.declared.limits.TheConstants.{SCRIPT_BYTES, SCRIPT_LINES};
+ghost use Rattle.uv_io.specs.Faults.{Rose};
+ghost use Rattle.uv_io.specs.Whole.{ReadsPrefix, ReadsCount};
+ghost use Rattle.uv_run.specs.Outcome.{IsEmptyRecord, IsCutShort, WritesUnlessFault, RunsBytes, RunsScript, TellsFault, RefusesScript, IsScriptLeft, IsRunOrNoMemory, IsBytesStatus, IsStepsStatus, Reports, ReportsCutShort, FailsReading, RefusesLength, report_of};
+ghost use Rattle.uv_run.specs.Playing.{Follows, gone_of};
+ghost use Rattle.uv_run.specs.Report.{fault_line, too_long_line, usage_line};
+ghost use Rattle.uv_run.specs.Script.{script_of};
+ghost use Rattle.uv_run.specs.Words.{AreSteps};
+
+use crate::outcome::{Done, Record};
+use crate::play::{Played, play};
+use crate::reports::{fault_text, report, too_long_text, usage_text};
+use crate::said::Line;
+use crate::script::{Parsed, parse};
+use crate::words::are_steps;
+use std::alloc::{AllocError, Global};
+use std::sync::Wait;
+use std::thread::Threads;
+use uv_io::{Failed, Gate, ReadAll, Sink, Source, read_all, write_all};
+use uv_num::{Bytes, List, SCRIPT_BYTES};
+
+/// The end of a run that told nothing.
+fn ended(alloc: Global, status: u8) -> Done
+    ensures status { result.status ≡ status }
+    ensures told { IsEmptyRecord result.told }
+{
+    Done {
+        status,
+        told: Record {
+            history: List::new(alloc),
+            replies: List::new(alloc),
+            left: List::new(alloc),
+        },
+    }
+}
+
+/// Writes a text that isn't a report, which a fault of the sink may cut short.
+fn tell<K: Sink>(sink: &mut K, text: &[u8])
+    ensures text { WritesUnlessFault (K.written sink.old) (K.written sink.new) (K.faults sink.old) (K.faults sink.new) text.now }
+    ensures later { K.faults sink.old ≤ K.faults sink.new }
+{
+    let _ = write_all(sink, text);
+}
+
+/// Writes a report, and answers the status: 0, or 4 where a fault of the sink cut it short.
+fn written<K: Sink>(sink: &mut K, text: &[u8]) -> u8
+    ensures statuses { (result ≡ 0) ⊎ (result ≡ 4) }
+    ensures whole { result ≡ 0 → Appends (K.written sink.old) (K.written sink.new) text.now }
+    ensures part { result ≡ 4 → IsCutShort (K.written sink.old) (K.written sink.new) (K.faults sink.old) (K.faults sink.new) text.now }
+    ensures later { K.faults sink.old ≤ K.faults sink.new }
+{
+    match write_all(sink, text) {
+        Ok(()) => 0,
+        Err(Failed) => 4,
+    }
+}
+
+/// The report of a script that was played.
+fn report_played(alloc: Global, played: &Played) -> Result<Bytes, AllocError>
+    requires { played.now.gone ≡ gone_of played.now.record.history }
+    ensures { IfOk result (λ text. text.bytes ≡ report_of played.now.record) }
+{
+    report(
+        alloc,
+        played.record.replies.as_slice(),
+        played.record.left.len(),
+        played.gone.as_slice(),
+    )
+}
+
+/// Runs the lines of a script, and writes the report.
+fn run_lines<K: Sink>(alloc: Global, lines: &[Line], sink: &mut K) -> Done
+    requires { length lines.now ≤ SCRIPT_LINES }
+    ensures statuses { IsRunOrNoMemory result.status ⊎ (result.status ≡ 4) }
+    ensures whole { result.status ≡ 0 → Follows lines.now result.told.history result.told.replies result.told.left }
+    ensures report { result.status ≡ 0 → Appends (K.written sink.old) (K.written sink.new) (report_of result.told) }
+    ensures part { result.status ≡ 4 → Follows lines.now result.told.history result.told.replies result.told.left }
+    ensures cut { result.status ≡ 4 → IsCutShort (K.written sink.old) (K.written sink.new) (K.faults sink.old) (K.faults sink.new) (report_of result.told) }
+    ensures silent { result.status ≡ 5 → sink.new ≡ sink.old }
+    ensures told { result.status ≡ 5 → IsEmptyRecord result.told }
+    ensures later { K.faults sink.old ≤ K.faults sink.new }
+{
+    let Ok(played) = play(alloc, lines) else {
+        return ended(alloc, 5);
+    };
+    let Ok(text) = report_played(alloc, &played) else {
+        return ended(alloc, 5);
+    };
+    let status = written(sink, text.as_slice());
+    Done {
+        status,
+        told: played.record,
+    }
+}
+
+/// Tells the line that is outside the grammar.
+fn tell_fault<K: Sink>(alloc: Global, line: u32, sink: &mut K) -> Done
+    ensures statuses { (result.status ≡ 1) ⊎ (result.status ≡ 5) }
+    ensures text { result.status ≡ 1 → WritesUnlessFault (K.written sink.old) (K.written sink.new) (K.faults sink.old) (K.faults sink.new) (fault_line line) }
+    ensures silent { result.status ≡ 5 → sink.new ≡ sink.old }
+    ensures told { IsEmptyRecord result.told }
+    ensures later { K.faults sink.old ≤ K.faults sink.new }
+{
+    let Ok(text) = fault_text(alloc, line) else {
+        return ended(alloc, 5);
+    };
+    tell(sink, text.as_slice());
+    ended(alloc, 1)
+}
+
+/// Runs the script of these bytes, if they are one.
+fn run_bytes<K: Sink>(alloc: Global, bytes: &[u8], sink: &mut K) -> Done
+    ensures statuses { IsBytesStatus result.status }
+    ensures whole { result.status ≡ 0 → RunsBytes bytes.now result.told }
+    ensures report { result.status ≡ 0 → Appends (K.written sink.old) (K.written sink.new) (report_of result.told) }
+    ensures fault { result.status ≡ 1 → TellsFault bytes.now (K.written sink.old) (K.written sink.new) (K.faults sink.old) (K.faults sink.new) }
+    ensures part { result.status ≡ 4 → RunsBytes bytes.now result.told }
+    ensures cut { result.status ≡ 4 → IsCutShort (K.written sink.old) (K.written sink.new) (K.faults sink.old) (K.faults sink.new) (report_of result.told) }
+    ensures silent { result.status ≡ 5 → sink.new ≡ sink.old }
+    ensures told { result.status ≢ 0 → result.status ≢ 4 → IsEmptyRecord result.told }
+    ensures later { K.faults sink.old ≤ K.faults sink.new }
+{
+    match parse(alloc, bytes) {
+        Parsed::Script(lines) => run_lines(alloc, lines.as_slice(), sink),
+        Parsed::Fault(line) => tell_fault(alloc, line, sink),
+        Parsed::NoMemory => ended(alloc, 5),
+    }
+}
+
+/// Reads a script, runs it and writes its report. What this promises, the calls that stand on it promise too.
+fn read_and_run<S: Source, K: Sink>(alloc: Global, source: &mut S, sink: &mut K) -> Done
+    ensures statuses { IsStepsStatus result.status }
+    ensures runs { result.status ≡ 0 → RunsScript (S.left source.old) (S.left source.new) result.told }
+    ensures report { result.status ≡ 0 → Appends (K.written sink.old) (K.written sink.new) (report_of result.told) }
+    ensures fault { result.status ≡ 1 → RefusesScript (S.left source.old) (S.left source.new) (K.written sink.old) (K.written sink.new) (K.faults sink.old) (K.faults sink.new) }
+    ensures read_fault { result.status ≡ 3 → Rose (S.faults source.old) (S.faults source.new) }
+    ensures read_part { result.status ≡ 3 → ReadsPrefix (S.left source.old) (S.left source.new) SCRIPT_BYTES }
+    ensures runs_cut { result.status ≡ 4 → RunsScript (S.left source.old) (S.left source.new) result.told }
+    ensures report_cut { result.status ≡ 4 → IsCutShort (K.written sink.old) (K.written sink.new) (K.faults sink.old) (K.faults sink.new) (report_of result.told) }
+    ensures memory { result.status ≡ 5 → ReadsPrefix (S.left source.old) (S.left source.new) (SCRIPT_BYTES + 1) }
+    ensures long { result.status ≡ 6 → ReadsCount (S.left source.old) (S.left source.new) (SCRIPT_BYTES + 1) }
+    ensures long_text { result.status ≡ 6 → WritesUnlessFault (K.written sink.old) (K.written sink.new) (K.faults sink.old) (K.faults sink.new) too_long_line }
+    ensures silent_fault { result.status ≡ 3 → sink.new ≡ sink.old }
+    ensures silent_memory { result.status ≡ 5 → sink.new ≡ sink.old }
+    ensures told { result.status ≢ 0 → result.status ≢ 4 → IsEmptyRecord result.told }
+    ensures later_read { S.faults source.old ≤ S.faults source.new }
+    ensures later_write { K.faults sink.old ≤ K.faults sink.new }
+{
+    match read_all(alloc, source, SCRIPT_BYTES as u32) {
+        ReadAll::Bytes(bytes) => run_bytes(alloc, bytes.as_slice(), sink),
+        ReadAll::ReadFault => ended(alloc, 3),
+        ReadAll::TooLong => tell_too_long(alloc, sink),
+        ReadAll::NoMemory => ended(alloc, 5),
+    }
+}
+
+/// Tells that more bytes came than a script has.
+fn tell_too_long<K: Sink>(alloc: Global, sink: &mut K) -> Done
+    ensures status { result.status ≡ 6 }
+    ensures text { WritesUnlessFault (K.written sink.old) (K.written sink.new) (K.faults sink.old) (K.faults sink.new) too_long_line }
+    ensures told { IsEmptyRecord result.told }
+    ensures later { K.faults sink.old ≤ K.faults sink.new }
+{
+    tell(sink, too_long_text());
+    ended(alloc, 6)
+}
+
+/// Tells how the program is used.
+fn tell_usage<K: Sink>(alloc: Global, sink: &mut K) -> Done
+    ensures status { result.status ≡ 2 }
+    ensures text { WritesUnlessFault (K.written sink.old) (K.written sink.new) (K.faults sink.old) (K.faults sink.new) usage_line }
+    ensures told { IsEmptyRecord result.told }
+    ensures later { K.faults sink.old ≤ K.faults sink.new }
+{
+    tell(sink, usage_text());
+    ended(alloc, 2)
+}
+
+/// Reads a script from the source, runs it, and writes its report to the sink.
+///
+/// What comes first decides: reading, then the grammar, then the run, then writing. Nothing is run of a script that has
+/// a line outside the grammar. Where the sink fails as the text of another status than 0 is written, that status
+/// stays. Want of memory is status 5; where the call of one line meets it, that line is answered `ENOMEM`.
+pub fn run_steps<S: Source, K: Sink>(alloc: Global, source: &mut S, sink: &mut K) -> Done
+    ensures statuses { IsStepsStatus result.status }
+    ensures done { result.status ≡ 0 → Reports (S.left source.old) (S.left source.new) (K.written sink.old) (K.written sink.new) result.told }
+    ensures fault { result.status ≡ 1 → RefusesScript (S.left source.old) (S.left source.new) (K.written sink.old) (K.written sink.new) (K.faults sink.old) (K.faults sink.new) }
+    ensures reading { result.status ≡ 3 → FailsReading (S.left source.old) (S.left source.new) (S.faults source.old) (S.faults source.new) }
+    ensures writing { result.status ≡ 4 → ReportsCutShort (S.left source.old) (S.left source.new) (K.written sink.old) (K.written sink.new) (K.faults sink.old) (K.faults sink.new) result.told }
+    ensures memory { result.status ≡ 5 → ReadsPrefix (S.left source.old) (S.left source.new) (SCRIPT_BYTES + 1) }
+    ensures length { result.status ≡ 6 → RefusesLength (S.left source.old) (S.left source.new) (K.written sink.old) (K.written sink.new) (K.faults sink.old) (K.faults sink.new) }
+
+    // Nothing is written of a read that failed, or where memory ran out.
+    ensures silent_reading { result.status ≡ 3 → sink.new ≡ sink.old }
+    ensures silent_memory { result.status ≡ 5 → sink.new ≡ sink.old }
+    ensures told { result.status ≢ 0 → result.status ≢ 4 → IsEmptyRecord result.told }
+    ensures later_source { S.faults source.old ≤ S.faults source.new }
+    ensures later_sink { K.faults sink.old ≤ K.faults sink.new }
+
+    // A script that is left is run where neither fails, memory aside.
+    ensures complete { IsScriptLeft (S.left source.old) → ¬ Rose (S.faults source.old) (S.faults source.new) → ¬ Rose (K.faults sink.old) (K.faults sink.new) → IsRunOrNoMemory result.status }
+{
+    read_and_run(alloc, source, sink)
+}
+
+/// Runs the program that the words ask for: `steps` reads a script, runs it on one thread and writes its report.
+///
+/// `words` are those behind the program's name. Words that are no form are status 2, and then the source isn't read.
+/// Neither `rt` nor `gate` is used by the one form that there is.
+pub fn run<R: Threads + Wait + Sync, S: Source, K: Sink, G: Gate>(
+    rt: &R,
+    alloc: Global,
+    words: &Vec<String>,
+    source: &mut S,
+    sink: &mut K,
+    gate: &G,
+) -> Done
+    ensures statuses { IsStepsStatus result.status ⊎ (result.status ≡ 2) }
+    ensures done { result.status ≡ 0 → Reports (S.left source.old) (S.left source.new) (K.written sink.old) (K.written sink.new) result.told }
+    ensures fault { result.status ≡ 1 → RefusesScript (S.left source.old) (S.left source.new) (K.written sink.old) (K.written sink.new) (K.faults sink.old) (K.faults sink.new) }
+
+    // The words are wrong exactly where the status is 2. Then nothing is read.
+    ensures words { AreSteps words.now.items → result.status ≢ 2 }
+    ensures usage { ¬ AreSteps words.now.items → result.status ≡ 2 }
+    ensures usage_unread { result.status ≡ 2 → source.new ≡ source.old }
+    ensures usage_text { result.status ≡ 2 → WritesUnlessFault (K.written sink.old) (K.written sink.new) (K.faults sink.old) (K.faults sink.new) usage_line }
+    ensures reading { result.status ≡ 3 → FailsReading (S.left source.old) (S.left source.new) (S.faults source.old) (S.faults source.new) }
+    ensures writing { result.status ≡ 4 → ReportsCutShort (S.left source.old) (S.left source.new) (K.written sink.old) (K.written sink.new) (K.faults sink.old) (K.faults sink.new) result.told }
+    ensures memory { result.status ≡ 5 → ReadsPrefix (S.left source.old) (S.left source.new) (SCRIPT_BYTES + 1) }
+    ensures length { result.status ≡ 6 → RefusesLength (S.left source.old) (S.left source.new) (K.written sink.old) (K.written sink.new) (K.faults sink.old) (K.faults sink.new) }
+
+    // Nothing is written of a read that failed, or where memory ran out.
+    ensures silent_reading { result.status ≡ 3 → sink.new ≡ sink.old }
+    ensures silent_memory { result.status ≡ 5 → sink.new ≡ sink.old }
+    ensures told { result.status ≢ 0 → result.status ≢ 4 → IsEmptyRecord result.told }
+    ensures later_source { S.faults source.old ≤ S.faults source.new }
+    ensures later_sink { K.faults sink.old ≤ K.faults sink.new }
+
+    // A script that is left is run where neither fails, memory aside.
+    ensures complete { AreSteps words.now.items → IsScriptLeft (S.left source.old) → ¬ Rose (S.faults source.old) (S.faults source.new) → ¬ Rose (K.faults sink.old) (K.faults sink.new) → IsRunOrNoMemory result.status }
+{
+    let _ = rt;
+    let _ = gate;
+    if are_steps(words) {
+        run_steps(alloc, source, sink)
+    } else {
+        tell_usage(alloc, sink)
+    }
+}
