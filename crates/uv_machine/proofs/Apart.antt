@@ -22,7 +22,7 @@ use Rattle.uv_machine.specs.States.{the_call, call_of, object_with, home_cell, i
 use Rattle.uv_machine.specs.Effects.{refusal_in, unless_refused, unless_answered, with_burial, buried_if_doomed, gone_from, stepped, after_step, make, make_at}
 use Rattle.uv_machine.specs.Histories.{after}
 use Rattle.uv_machine.specs.Laws.{is_of, IsIdle}
-use Rattle.uv_machine.proofs.Lists1.{slice_get-at_place_other}
+use Rattle.uv_machine.proofs.Members.{slice_get-at_place_elsewhere}
 
 -- the call at a place is as it was
 abbrev pub IsSameAt : ℕ → State → State → Type 0
@@ -48,25 +48,25 @@ unless_answered_same b m m' (Some e) h = refl
 module _ (m : State) (c b : ℕ) (apart : c ≢ b) where
   unless_refused_same : (m' : State) (r : Option Errno) → IsSameAt b m m' → IsSameAt b m (unless_refused m c r m')
   unless_refused_same m' None e = e
-  unless_refused_same m' (Some e) h = slice_get-at_place_other m.calls c b _ apart
+  unless_refused_same m' (Some e) h = slice_get-at_place_elsewhere m.calls c b _ apart
 
   make_at_same : (call : InFlight) (kind : Kind) (i : Option ℕ) → IsSameAt b m (make_at m c call kind i)
   make_at_same call kind None = refl
-  make_at_same call kind (Some i) = slice_get-at_place_other m.calls c b _ apart
+  make_at_same call kind (Some i) = slice_get-at_place_elsewhere m.calls c b _ apart
 
   make_same : (call : InFlight) (role : Role) → IsSameAt b m (make m c call role)
   make_same call (Creates kind) = make_at_same call kind (home_cell m kind)
   make_same call (Destroys asked) = refl
 
   stepped_same : (call : InFlight) (w : Word) (o : ℕ) (r : Option Errno) → IsSameAt b m (stepped m c call w o r)
-  stepped_same call Reserve o r = unless_refused_same _ r (slice_get-at_place_other m.calls c b _ apart)
+  stepped_same call Reserve o r = unless_refused_same _ r (slice_get-at_place_elsewhere m.calls c b _ apart)
   stepped_same call Make o r = unless_refused_same _ r (make_same call (role_of call.request))
-  stepped_same call Commit o r = unless_refused_same _ r (slice_get-at_place_other m.calls c b _ apart)
-  stepped_same call Lock o r = unless_refused_same _ r (slice_get-at_place_other m.calls c b _ apart)
-  stepped_same call Check o r = unless_refused_same _ r (slice_get-at_place_other m.calls c b _ apart)
-  stepped_same call Finish o r = unless_refused_same _ r (slice_get-at_place_other _ c b _ apart ∙ ap (λ calls. slice_get calls b) (calls_buried m (object_with m o)))
-  stepped_same call Abort o r = unless_refused_same _ r (slice_get-at_place_other m.calls c b _ apart)
-  stepped_same call Exit o r = slice_get-at_place_other m.calls c b _ apart
+  stepped_same call Commit o r = unless_refused_same _ r (slice_get-at_place_elsewhere m.calls c b _ apart)
+  stepped_same call Lock o r = unless_refused_same _ r (slice_get-at_place_elsewhere m.calls c b _ apart)
+  stepped_same call Check o r = unless_refused_same _ r (slice_get-at_place_elsewhere m.calls c b _ apart)
+  stepped_same call Finish o r = unless_refused_same _ r (slice_get-at_place_elsewhere _ c b _ apart ∙ ap (λ calls. slice_get calls b) (calls_buried m (object_with m o)))
+  stepped_same call Abort o r = unless_refused_same _ r (slice_get-at_place_elsewhere m.calls c b _ apart)
+  stepped_same call Exit o r = slice_get-at_place_elsewhere m.calls c b _ apart
 
   after_step_same : (slot : Option InFlight) (w : Word) (o : ℕ) (a : Answer) → IsSameAt b m (after_step m c slot w o a)
   after_step_same None w o a = refl
@@ -74,7 +74,7 @@ module _ (m : State) (c b : ℕ) (apart : c ≢ b) where
 
 pub after_same : (m : State) (e : Entry) (b : ℕ) → is_of b e ≡ false → IsSameAt b m (after m e)
 after_same m (Open c f d a) b other = unless_answered_same b m _ (refusal_in a) refl
-after_same m (Enter c f request a) b other = unless_answered_same b m _ (refusal_in a) (slice_get-at_place_other m.calls c b _ (eqb-false c b other))
+after_same m (Enter c f request a) b other = unless_answered_same b m _ (refusal_in a) (slice_get-at_place_elsewhere m.calls c b _ (eqb-false c b other))
 after_same m (Step c w o found a) b other = after_step_same m c b (eqb-false c b other) (call_of m c) w o a
 after_same m (Tear f by) b other = refl
 after_same m (Kill o) b other = refl

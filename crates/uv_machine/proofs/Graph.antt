@@ -9,7 +9,7 @@ use Rattle.uv_machine.specs.declared.object.Object.{Object}
 use Rattle.uv_machine.specs.declared.object.Change.{Change}
 use Rattle.uv_machine.specs.Objects.{has_id, uses_object, no_ids, on_object}
 use Rattle.uv_machine.specs.Reached.{IsIn, IsRising, IsAbove, UsesWell, IsGraph}
-use Rattle.uv_machine.proofs.Lists1.{IsIn-append-cases, IsIn-map, Passes-filter}
+use Rattle.uv_machine.proofs.Members.{IsIn-append-cases, IsIn-map, Passes-filter}
 use Rattle.uv_machine.proofs.Changing.{on_object-id, on_object-file, on_object-kind, on_object-uses, on_object-husk}
 
 -- Ids.

@@ -12,7 +12,7 @@ use Rattle.uv_machine.specs.declared.state.State.{State}
 use Rattle.uv_machine.specs.Plans.{next_word, own_object, moved_on, with_made}
 use Rattle.uv_machine.specs.States.{the_call, call_of}
 use Rattle.uv_machine.specs.Reached.{IsHeldFor}
-use Rattle.uv_machine.proofs.Plan.{IsCreating, IsDestroying}
+use Rattle.uv_machine.proofs.Planned.{IsCreating, IsDestroying}
 use Rattle.uv_machine.proofs.Apart.{IsSameAt}
 
 -- the words of calls that hold an object for good

@@ -20,11 +20,12 @@ use Rattle.uv_machine.specs.Plans.{next_word, own_object, moved_on, with_made, w
 use Rattle.uv_machine.specs.States.{call_of, phase_in, phase_of, is_tearing}
 use Rattle.uv_machine.specs.Effects.{with_call, with_object, with_burial, without_object, not_with_id, buried_if_doomed, with_new, made_outcome, with_file, in_phase, gone_from, not_in_file, after_closed}
 use Rattle.uv_machine.specs.Reached.{IsIn, IsHeldFor, Reached}
-use Rattle.uv_machine.proofs.Lists1.{slice_get-at_place_other, length-at_place, IsIn-append-cases, IsIn-map, Passes-filter}
+use Rattle.uv_num.proofs.PlaceLaws.{length-at_place}
+use Rattle.uv_machine.proofs.Members.{slice_get-at_place_elsewhere, IsIn-append-cases, IsIn-map, Passes-filter}
 use Rattle.uv_machine.proofs.Changing.{on_object-id, on_object-file, on_object-made, live-made, live-doomed, husk-doomed, doomed-doomed}
 use Rattle.uv_machine.proofs.Graph.{IsGraph-map, IsGraph-filter, IsGraph-append}
 use Rattle.uv_machine.proofs.Holding.{is_holding, held_alike, held_stays, apart_by_word, apart_by_object, next_word-checked, next_word-made}
-use Rattle.uv_machine.proofs.Plan.{IsCreating, IsDestroying}
+use Rattle.uv_machine.proofs.Planned.{IsCreating, IsDestroying}
 use Rattle.uv_machine.proofs.OwnCall.{call_of-with_call}
 
 -- what is so of each item behind a function is so of the mapped list's
@@ -55,7 +56,7 @@ Reached-pools m p r = record {
 -- Files.
 
 phase_of-other : (m : State) (f k : ℕ) (g : File → File) → f ≢ k → phase_of (with_file m f g) k ≡ phase_of m k
-phase_of-other m f k g ne = ap phase_in (slice_get-at_place_other m.files f k g ne)
+phase_of-other m f k g ne = ap phase_in (slice_get-at_place_elsewhere m.files f k g ne)
 
 -- a change of a file that leaves no doomed object without an end
 pub Reached-file : (m : State) (f : ℕ) (g : File → File) → (is_tearing (phase_of m f) ≡ true → is_tearing (phase_of (with_file m f g) f) ≡ true) → Reached m → Reached (with_file m f g)
@@ -89,7 +90,7 @@ module _ (m : State) (c : ℕ) (r : Reached m) where
     where
       stays : (w : Word) (o : ℕ) → is_holding w ≡ true → IsHeldFor m w o → IsHeldFor (record m { calls = at_place m.calls c g }) w o
       stays w o holds held =
-          held_stays m (record m { calls = at_place m.calls c g }) c (λ b ne. slice_get-at_place_other m.calls c b g ne) w o
+          held_stays m (record m { calls = at_place m.calls c g }) c (λ b ne. slice_get-at_place_elsewhere m.calls c b g ne) w o
           (λ call is word own. let a : is_holding (next_word call) ≡ true = ap is_holding word ∙ holds in let b = idle call is in cc)
           held
 
@@ -105,7 +106,7 @@ module _ (m : State) (c : ℕ) (r : Reached m) (call : InFlight) (is : call_of m
   pub Reached-commit : (o : ℕ) → next_word call ≡ Commit → own_object call ≡ o → Reached (with_call (with_object m o ToLive) c without_lock)
   Reached-commit o word own =
       let m' = with_call (with_object m o ToLive) c without_lock in
-      let same : (b : ℕ) → c ≢ b → slice_get m'.calls b ≡ slice_get m.calls b = λ b ne. slice_get-at_place_other m.calls c b (option_map without_lock) ne in
+      let same : (b : ℕ) → c ≢ b → slice_get m'.calls b ≡ slice_get m.calls b = λ b ne. slice_get-at_place_elsewhere m.calls c b (option_map without_lock) ne in
       record {
         files = r.files;
         calls = length-at_place m.calls c (option_map without_lock) ∙ r.calls;
@@ -120,7 +121,7 @@ module _ (m : State) (c : ℕ) (r : Reached m) (call : InFlight) (is : call_of m
   pub Reached-check : (o : ℕ) → next_word call ≡ Check → IsDestroying (role_of call.request) call.refusal call.place 1 → own_object call ≡ o → Reached (with_call (with_object m o ToDoomed) c moved_on)
   Reached-check o word stands own =
       let m' = with_call (with_object m o ToDoomed) c moved_on in
-      let same : (b : ℕ) → c ≢ b → slice_get m'.calls b ≡ slice_get m.calls b = λ b ne. slice_get-at_place_other m.calls c b (option_map moved_on) ne in
+      let same : (b : ℕ) → c ≢ b → slice_get m'.calls b ≡ slice_get m.calls b = λ b ne. slice_get-at_place_elsewhere m.calls c b (option_map moved_on) ne in
       let held_now : (i : ℕ) → i ≡ o → IsHeldFor m' Finish i =
       λ i e. record { actor = c; call = moved_on call; is = call_of-with_call m c moved_on call is; word = next_word-checked call stands; own = own ∙ sym e }
       in
@@ -141,7 +142,7 @@ module _ (m : State) (c : ℕ) (r : Reached m) (call : InFlight) (is : call_of m
   pub Reached-finish : (o : ℕ) → next_word call ≡ Finish → own_object call ≡ o → Reached (with_call (without_object m o) c without_lock)
   Reached-finish o word own =
       let m' = with_call (without_object m o) c without_lock in
-      let same : (b : ℕ) → c ≢ b → slice_get m'.calls b ≡ slice_get m.calls b = λ b ne. slice_get-at_place_other m.calls c b (option_map without_lock) ne in
+      let same : (b : ℕ) → c ≢ b → slice_get m'.calls b ≡ slice_get m.calls b = λ b ne. slice_get-at_place_elsewhere m.calls c b (option_map without_lock) ne in
       record {
         files = r.files;
         calls = length-at_place m.calls c (option_map without_lock) ∙ r.calls;
@@ -160,7 +161,7 @@ module _ (m : State) (c : ℕ) (r : Reached m) (call : InFlight) (is : call_of m
   Reached-make z word stands fresh id free made =
       let m' = with_new m c z in
       let g = with_made z.id (made_outcome z) in
-      let same : (b : ℕ) → c ≢ b → slice_get m'.calls b ≡ slice_get m.calls b = λ b ne. slice_get-at_place_other m.calls c b (option_map g) ne in
+      let same : (b : ℕ) → c ≢ b → slice_get m'.calls b ≡ slice_get m.calls b = λ b ne. slice_get-at_place_elsewhere m.calls c b (option_map g) ne in
       let held_now : IsHeldFor m' Commit z.id =
       record { actor = c; call = g call; is = call_of-with_call m c g call is; word = next_word-made call z.id (made_outcome z) stands; own = refl }
       in

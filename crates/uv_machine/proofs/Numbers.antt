@@ -34,9 +34,9 @@ use Rattle.uv_machine.specs.Steps.{told, refused_told, reserve_told, plain_told}
 use Rattle.uv_machine.specs.Effects.{refusal_in, with_call, make, make_at, new_object, made_outcome, generation_in, with_burial, without_object, buried_if_doomed, not_with_id, stepped, after_step, put_call, no_call, gone_from, not_in_file, unless_answered}
 use Rattle.uv_machine.specs.Histories.{Allowed, after, kept_in, state_from, state_of, IsLegalFrom, IsLegal}
 use Rattle.uv_machine.specs.Laws.{MakeHasRoom, HasRoom}
-use Rattle.uv_machine.proofs.Lists2.{one, one_le, one_none, one_most, same_one, worth, sum_by-at_place_worth, sum_by-filter-le, sum_by-map-le, sum_by-item, each_item, each_at, each-at_place, each-map, each-filter, each-push, each-replicate, count_by-replicate-none, count_by-none, has_key, length_below, sum_by-le-each, each_weaken}
-use Rattle.uv_machine.proofs.Planning.{planned, InPlan, in_plan, never_aborts, make_behind_next}
-use Rattle.uv_machine.proofs.Inverting.{calls_count, IsStepOf, step_allowed, call_stands, is_exit, refusal_told}
+use Rattle.uv_machine.proofs.Sums.{one, one_le, one_none, one_most, same_one, worth, sum_by-at_place_worth, sum_by-filter-le, sum_by-map-le, sum_by-item, each_item, each_at, each-at_place, each-map, each-filter, each-push, each-replicate, count_by-replicate-none, count_by-none, has_key, length_below, sum_by-le-each, each_weaken}
+use Rattle.uv_machine.proofs.Planned.{planned, InPlan, in_plan, never_aborts, make_behind_next}
+use Rattle.uv_machine.proofs.Stepping.{calls_count, IsStepOf, IsStepOf-allowed, call_stands, is_exit, refusal_told}
 
 -- The invariant.
 
@@ -270,13 +270,13 @@ step_numbered m c call Abort o None numbered stands fits word tells =
 step_numbered m c call Abort o (Some e) numbered stands fits word tells = refusal_numbered m c call e numbered stands fits
 step_numbered m c call Exit o r numbered stands fits word tells = numbered_call m.objects m.calls c no_call call numbered stands (ended call) tt
 
-steps_numbered : (m : State) (c : ℕ) (w : Word) (o : ℕ) (found : Option QpState) (a : Answer) → IsStepOf m c w o a → Numbered m → Numbered (after_step m c (call_of m c) w o a)
+steps_numbered : (m : State) (c : ℕ) (w : Word) (o : ℕ) (found : Option QpState) (a : Answer) → IsStepOf m c (call_of m c) w o a → Numbered m → Numbered (after_step m c (call_of m c) w o a)
 steps_numbered m c w o found a s numbered =
     let P : Option InFlight → Type 0 = λ slot. Numbered (after_step m c slot w o a) in
     let stands = call_stands m c s.call s.is in
     let tells : is_exit w ≡ false → refusal_in a ≡ (told m c s.call w).refusal =
-    λ not_exit. ap refusal_in s.answers ∙ refusal_told m s.call (kept_in a) w (told m c s.call w).refusal not_exit in
-    subst P (sym s.is) (step_numbered m c s.call w o (refusal_in a) numbered stands (each_at SlotFits m.calls c (Some s.call) stands numbered.slots) s.word tells)
+    λ not_exit. ap refusal_in (sym s.answer) ∙ refusal_told m s.call (kept_in a) w (told m c s.call w).refusal not_exit in
+    subst P (sym s.is) (step_numbered m c s.call w o (refusal_in a) numbered stands (each_at SlotFits m.calls c (Some s.call) stands numbered.slots) (sym s.word) tells)
 
 -- The other entries.
 
@@ -311,7 +311,7 @@ gone_numbered m o (Some x) numbered = numbered_change o ToHusk m.objects m.calls
 pub numbered_after : (m : State) (e : Entry) → Allowed m e → Numbered m → Numbered (after m e)
 numbered_after m (Open c f d a) allowed numbered = unless_answered_numbered m _ (refusal_in a) numbered numbered
 numbered_after m (Enter c f request a) allowed numbered = unless_answered_numbered m _ (refusal_in a) numbered (numbered_put m.objects m.calls c f request numbered allowed.1)
-numbered_after m (Step c w o found a) allowed numbered = steps_numbered m c w o found a (step_allowed m c w o found a allowed) numbered
+numbered_after m (Step c w o found a) allowed numbered = steps_numbered m c w o found a (IsStepOf-allowed m c w o found a allowed) numbered
 numbered_after m (Tear f by) allowed numbered = numbered
 numbered_after m (Kill o) allowed numbered = numbered_change o ToDoomed m.objects m.calls numbered
 numbered_after m (Gone o kept) allowed numbered = gone_numbered m o (object_with m o) numbered
@@ -375,18 +375,18 @@ room_beside m c call (Some n) numbered stands on is some below =
     let none : count_by (has_key place_key (f * HANDLES + n)) m.objects ≡ 0 = omega (arith, numbered.once f n, own, value, counts) in
     length_below place_key MOST_OBJECTS (f * HANDLES + n) m.objects (each_weaken HasPlace _ key_within m.objects numbered.places) (key_once m.objects m.calls numbered) (omega arith) none
 
-make_room : (m : State) (c o : ℕ) (a : Answer) → Numbered m → IsStepOf m c Make o a → length m.objects < MOST_OBJECTS
+make_room : (m : State) (c o : ℕ) (a : Answer) → Numbered m → IsStepOf m c (call_of m c) Make o a → length m.objects < MOST_OBJECTS
 make_room m c o a numbered s =
     let stands = call_stands m c s.call s.is in
     let fits = each_at SlotFits m.calls c (Some s.call) stands numbered.slots in
-    let plan = in_plan s.call Make s.word refl in
+    let plan = in_plan s.call Make (sym s.word) refl in
     room_beside m c s.call s.call.reserved numbered stands fits.on refl (fits.ready plan.fine plan.planned) fits.number
 
 has_room : (m : State) (e : Entry) → Numbered m → Allowed m e → HasRoom m e
 has_room m (Open c f d a) numbered allowed makes = cc
 has_room m (Enter c f request a) numbered allowed makes = cc
 has_room m (Step c Reserve o found a) numbered allowed makes = cc
-has_room m (Step c Make o found a) numbered allowed makes = make_room m c o a numbered (step_allowed m c Make o found a allowed)
+has_room m (Step c Make o found a) numbered allowed makes = make_room m c o a numbered (IsStepOf-allowed m c Make o found a allowed)
 has_room m (Step c Commit o found a) numbered allowed makes = cc
 has_room m (Step c Lock o found a) numbered allowed makes = cc
 has_room m (Step c Check o found a) numbered allowed makes = cc

@@ -36,9 +36,9 @@ use Rattle.uv_machine.specs.Effects.{refusal_in, with_call, with_object, make, m
 use Rattle.uv_machine.specs.Outside.{may_kill, may_kill_object, is_object, is_swept, may_go_object}
 use Rattle.uv_machine.specs.Histories.{Allowed, after, kept_in}
 use Rattle.uv_machine.specs.Accounts.{steps_back, steps_behind, new_object_owes, making_owes, call_owes, phase_owes, object_owes, file_phase_owes, file_owes, owed, costs, unless_refused_costs}
-use Rattle.uv_machine.proofs.Lists2.{worth, sum_by-at_place_worth, sum_by-filter-le, sum_by-map-le, each_item, sum_by-map-falls, find_passes, find_among, find_among_reverse}
-use Rattle.uv_machine.proofs.Planning.{planned, InPlan, in_plan, never_aborts, only_creates_make}
-use Rattle.uv_machine.proofs.Inverting.{IsStepOf, step_allowed, call_stands, is_exit, refusal_told}
+use Rattle.uv_machine.proofs.Sums.{worth, sum_by-at_place_worth, sum_by-filter-le, sum_by-map-le, each_item, sum_by-map-falls, find_passes, find_among, find_among_reverse}
+use Rattle.uv_machine.proofs.Planned.{planned, InPlan, in_plan, never_aborts, only_creates_make}
+use Rattle.uv_machine.proofs.Stepping.{IsStepOf, IsStepOf-allowed, call_stands, is_exit, refusal_told}
 
 -- Calls.
 
@@ -335,12 +335,12 @@ gone_owes m o (Some x) is may =
     stands in
     omega (arith, falls)
 
-step_covers : (m : State) (c : ℕ) (w : Word) (o : ℕ) (found : Option QpState) (a : Answer) → IsStepOf m c w o a → owed (after_step m c (call_of m c) w o a) + 1 ≤ owed m + 0
+step_covers : (m : State) (c : ℕ) (w : Word) (o : ℕ) (found : Option QpState) (a : Answer) → IsStepOf m c (call_of m c) w o a → owed (after_step m c (call_of m c) w o a) + 1 ≤ owed m + 0
 step_covers m c w o found a s =
     let P : Option InFlight → Type 0 = λ slot. owed (after_step m c slot w o a) + 1 ≤ owed m + 0 in
     let tells : is_exit w ≡ false → refusal_in a ≡ (told m c s.call w).refusal =
-    λ not_exit. ap refusal_in s.answers ∙ refusal_told m s.call (kept_in a) w (told m c s.call w).refusal not_exit in
-    let pays = step_owes m c s.call w o (refusal_in a) s.is s.word tells in
+    λ not_exit. ap refusal_in (sym s.answer) ∙ refusal_told m s.call (kept_in a) w (told m c s.call w).refusal not_exit in
+    let pays = step_owes m c s.call w o (refusal_in a) s.is (sym s.word) tells in
     subst P (sym s.is) (omega (arith, pays))
 
 -- what is owed covers each entry
@@ -352,7 +352,7 @@ owed_after m (Enter c f request a) allowed =
     unless_answered_owes m (record m { calls = at_place m.calls c (put_call call) }) (refusal_in a) (call_owes (Some call))
     (omega (arith, sum_by-at_place_worth call_owes (put_call call) m.calls c, entered_worth call (slice_get m.calls c)))
 owed_after m (Step c w o found a) allowed =
-    step_covers m c w o found a (step_allowed m c w o found a allowed)
+    step_covers m c w o found a (IsStepOf-allowed m c w o found a allowed)
 owed_after m (Tear f by) allowed =
     omega (arith, files_change m f (in_phase (file.Tearing by)) 1 (λ x. omega arith), torn_owes (by == DRIVER) (phase_of m f) (is_unplugged m (device_of m f)) allowed.2)
 owed_after m (Kill o) allowed = omega (arith, kill_owes m o allowed)

@@ -25,8 +25,8 @@ use Rattle.uv_machine.specs.Steps.{told, refused_told, make_of, cell_told, make_
 use Rattle.uv_machine.specs.Effects.{refusal_in, with_call, no_call, left, unless_refused, with_object, without_object, made_outcome, with_new, new_object, generation_in, buried_if_doomed, make, make_at, stepped, after_step}
 use Rattle.uv_machine.specs.Histories.{Allowed, after, kept_in}
 use Rattle.uv_machine.specs.Accounts.{steps_back, steps_behind, steps_ahead}
-use Rattle.uv_machine.proofs.Lists1.{slice_get-at_place_same}
-use Rattle.uv_machine.proofs.Plan.{IsCreating, IsDestroying, IsUnwinding, StandsAt, StandsAt-next_word, next_place_below}
+use Rattle.uv_num.proofs.PlaceLaws.{slice_get-at_place_same}
+use Rattle.uv_machine.proofs.Planned.{IsCreating, IsDestroying, IsUnwinding, StandsAt, StandsAt-next_word, next_place_below}
 use Rattle.uv_machine.proofs.Stepping.{IsStepOf-allowed}
 use Rattle.uv_machine.proofs.Apart.{calls_buried}
 

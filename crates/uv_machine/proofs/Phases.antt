@@ -23,7 +23,7 @@ use Rattle.uv_machine.specs.Effects.{refusal_in, unless_refused, unless_answered
 use Rattle.uv_machine.specs.Histories.{Allowed, after, IsLegal, state_of}
 use Rattle.uv_machine.specs.Laws.{moves_file}
 use Rattle.uv_machine.proofs.GoingOn.{state_from-snoc}
-use Rattle.uv_machine.proofs.Lists1.{slice_get-at_place_same}
+use Rattle.uv_num.proofs.PlaceLaws.{slice_get-at_place_same}
 use Rattle.uv_machine.proofs.Reaching.{Reached-state_of}
 
 -- What leaves every file as it was.

@@ -32,8 +32,8 @@ use Rattle.uv_machine.specs.Effects.{refusal_in, with_call, no_call, unless_refu
 use Rattle.uv_machine.specs.Outside.{MayAnswer, may_kill_in, may_kill_object, may_kill}
 use Rattle.uv_machine.specs.Histories.{Allowed, after, kept_in, state_from, state_of, IsLegalFrom, IsLegal}
 use Rattle.uv_machine.specs.Reached.{IsIn, Reached}
-use Rattle.uv_machine.proofs.Lists1.{slice_get-at_place_same}
-use Rattle.uv_machine.proofs.Plan.{IsCreating, StandsAt, StandsAt-next_word}
+use Rattle.uv_num.proofs.PlaceLaws.{slice_get-at_place_same}
+use Rattle.uv_machine.proofs.Planned.{IsCreating, StandsAt, StandsAt-next_word}
 use Rattle.uv_machine.proofs.Stepping.{IsStepOf-allowed}
 use Rattle.uv_machine.proofs.OwnCall.{TellsRefusal, tells_of, MakesIn-fine, object_made}
 use Rattle.uv_machine.proofs.Apart.{calls_buried}

@@ -28,7 +28,8 @@ use Rattle.uv_machine.specs.Histories.{Allowed, after, state_of, IsLegal}
 use Rattle.uv_machine.specs.Laws.{IsIdle, IsSwept, standing_count}
 use Rattle.uv_machine.specs.Reached.{IsIn, IsAbove, IsHeldFor, Reached}
 use Rattle.uv_machine.proofs.GoingOn.{state_from-snoc, IsLegalFrom-snoc}
-use Rattle.uv_machine.proofs.Lists1.{slice_get-at_place_same, IsIn-reverse, IsIn-from_reverse, IsIn-into_map, Passes, Passes-find, fails_find, SomePasses-list_any, list_any-none, fails_any, count_by-map-le, count_by-map-lt}
+use Rattle.uv_num.proofs.PlaceLaws.{slice_get-at_place_same}
+use Rattle.uv_machine.proofs.Members.{IsIn-reverse, IsIn-from_reverse, IsIn-into_map, Passes, Passes-find, fails_find, SomePasses-list_any, list_any-none, fails_any, count_by-map-le, count_by-map-lt}
 use Rattle.uv_machine.proofs.Apart.{is_quiet-idle}
 use Rattle.uv_machine.proofs.Changing.{changed_if, on_object-id, on_object-file, husk-doomed, doomed-doomed}
 use Rattle.uv_machine.proofs.Graph.{find_rising, uses_nothing, IsGraph-map}

@@ -5,6 +5,7 @@
 //! for the source and the sink, and ends with the run's status. Nothing is written to standard error.
 #![tactic(auto)]
 
+use std::alloc::AllocError;
 use std::env::args;
 use std::io;
 use std::process::ExitCode;
@@ -20,16 +21,22 @@ fn arguments(rt: &HostRuntime) -> io::Result<Vec<String>> {
     Ok(all.collect(rt.alloc())?)
 }
 
-/// The words to run by. Arguments that can't be had are wrong words: none.
-fn words(rt: &HostRuntime) -> Vec<String> {
+/// The words to run by. Arguments that aren't text are wrong words: none.
+fn words(rt: &HostRuntime) -> Result<Vec<String>, AllocError> {
     match arguments(rt) {
-        Ok(words) => words,
-        Err(_) => Vec::new(rt.alloc()),
+        Ok(words) => Ok(words),
+        Err(fault) if fault.kind() == io::ErrorKind::OutOfMemory => Err(AllocError),
+        Err(_) => Ok(Vec::new(rt.alloc())),
     }
 }
 
+/// The status of a run for which there is no memory.
+const NO_MEMORY: u8 = 5;
+
 fn main(rt: HostRuntime) -> ExitCode {
-    let words = words(&rt);
+    let Ok(words) = words(&rt) else {
+        return ExitCode::from(NO_MEMORY);
+    };
     let mut source = StdSource::new(rt.stdin());
     let mut sink = StdSink::new(rt.stdout());
     let done = run(&rt, rt.alloc(), &words, &mut source, &mut sink, &OpenGate);

@@ -1,12 +1,13 @@
--- What a change at one place of a list leaves at each place, and the items of a list.
-use Rattle.std.specs.Prelude.{ℕ, Bool, true, false, ◌||◌, ◌≡◌, ◌≢◌, ◌⊎◌, List, [], ◌∷◌, ◌++◌, Option, None, Some, cond, refl, length, map, filter, find, reverse, slice_get, slice_set, option_map}
+-- The items of a list: at their places, among the list, and behind maps and filters.
+use Rattle.std.specs.Prelude.{ℕ, Bool, true, false, ◌||◌, ◌≡◌, ◌≢◌, ◌⊎◌, List, [], ◌∷◌, ◌++◌, None, Some, cond, refl, map, filter, find, reverse, slice_get, slice_set}
 use Rattle.std.specs.List.{list_any}
 use Rattle.std.proofs.Common.{zero, suc, ◌+◌, ◌≤◌, ◌<◌, count_by, ap, sym, subst, ◌∙◌, arith, inl, inr, ⊎_elim}
 use Rattle.std.proofs.lemmas.Option.{none-some, same_Some}
-use Rattle.std.proofs.lemmas.List.{length-set, reverse-append, reverse-reverse}
+use Rattle.std.proofs.lemmas.List.{reverse-append, reverse-reverse}
 use Rattle.std.proofs.lemmas.List.Sums.{sum_by-cons}
 use Rattle.uv_machine.specs.Reached.{IsIn}
-use Rattle.uv_num.specs.Place.{changed_item, at_place}
+use Rattle.uv_num.specs.Place.{at_place}
+use Rattle.uv_num.proofs.PlaceLaws.{slice_get-at_place_other}
 
 pub slice_get-set_same : {X : Type 0} (xs : List X) (i : ℕ) (x y : X) → slice_get xs i ≡ Some x → slice_get (slice_set xs i y) i ≡ Some y
 slice_get-set_same [] i x y e = absurd (none-some x e)
@@ -20,26 +21,8 @@ slice_get-set_other (z ∷ xs) zero (suc j) y ne = refl
 slice_get-set_other (z ∷ xs) (suc i) zero y ne = refl
 slice_get-set_other (z ∷ xs) (suc i) (suc j) y ne = slice_get-set_other xs i j y (λ e. ne (ap suc e))
 
-changed_item_same : {X : Type 0} (xs : List X) (i : ℕ) (f : X → X) (r : Option X) → slice_get xs i ≡ r → slice_get (changed_item xs i f r) i ≡ option_map f r
-changed_item_same xs i f None e = e
-changed_item_same xs i f (Some x) e = slice_get-set_same xs i x (f x) e
-
-pub slice_get-at_place_same : {X : Type 0} (xs : List X) (i : ℕ) (f : X → X) → slice_get (at_place xs i f) i ≡ option_map f (slice_get xs i)
-slice_get-at_place_same xs i f = changed_item_same xs i f (slice_get xs i) refl
-
-changed_item_other : {X : Type 0} (xs : List X) (i j : ℕ) (f : X → X) (r : Option X) → i ≢ j → slice_get (changed_item xs i f r) j ≡ slice_get xs j
-changed_item_other xs i j f None ne = refl
-changed_item_other xs i j f (Some x) ne = slice_get-set_other xs i j (f x) ne
-
-pub slice_get-at_place_other : {X : Type 0} (xs : List X) (i j : ℕ) (f : X → X) → i ≢ j → slice_get (at_place xs i f) j ≡ slice_get xs j
-slice_get-at_place_other xs i j f ne = changed_item_other xs i j f (slice_get xs i) ne
-
-length-changed_item : {X : Type 0} (xs : List X) (i : ℕ) (f : X → X) (r : Option X) → length (changed_item xs i f r) ≡ length xs
-length-changed_item xs i f None = refl
-length-changed_item xs i f (Some x) = length-set xs i (f x)
-
-pub length-at_place : {X : Type 0} (xs : List X) (i : ℕ) (f : X → X) → length (at_place xs i f) ≡ length xs
-length-at_place xs i f = length-changed_item xs i f (slice_get xs i)
+pub slice_get-at_place_elsewhere : {X : Type 0} (xs : List X) (i j : ℕ) (f : X → X) → i ≢ j → slice_get (at_place xs i f) j ≡ slice_get xs j
+slice_get-at_place_elsewhere xs i j f ne = slice_get-at_place_other xs i j f (λ e. ne (sym e))
 
 -- The items of a list.
 

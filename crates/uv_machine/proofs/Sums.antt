@@ -7,13 +7,8 @@ use Rattle.std.proofs.lemmas.Bool.{or_left, or_right, or_parts, cases_lt}
 use Rattle.std.proofs.lemmas.Bool.Decides.{nat_tests}
 use Rattle.std.proofs.lemmas.List.Sorted.{list_any-IsPermutation, IsPermutation-reverse}
 use Rattle.std.proofs.lemmas.List.Sums.{sum_by-cons}
-use Rattle.uv_num.specs.Place.{at_place, changed_item}
-
--- one place further, a change leaves the first item
-pub at_place-cons : {X : Type 0} (x : X) (xs : List X) (i : ℕ) (g : X → X) → at_place (x ∷ xs) (suc i) g ≡ x ∷ at_place xs i g
-at_place-cons x xs i g =
-    let go : (o : Option _) → changed_item (x ∷ xs) (suc i) g o ≡ x ∷ changed_item xs i g o = λ o. elim o as (λ v. changed_item (x ∷ xs) (suc i) g v ≡ x ∷ changed_item xs i g v) [ None ↦ refl | Some y ↦ refl ] in
-    go (slice_get xs i)
+use Rattle.uv_num.specs.Place.{at_place}
+use Rattle.uv_num.proofs.PlaceLaws.{at_place-cons}
 
 filtered_le : {X : Type 0} (f : X → ℕ) (b : Bool) (x : X) (xs kept : List X) → sum_by f kept ≤ sum_by f xs → sum_by f (if b then x ∷ kept else kept) ≤ sum_by f (x ∷ xs)
 filtered_le f true x xs kept le = omega (arith, sum_by-cons f x xs, sum_by-cons f x kept)
