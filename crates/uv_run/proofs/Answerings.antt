@@ -7,7 +7,7 @@ use Rattle.uv_machine.specs.Calls.{calls_of}
 use Rattle.uv_run.specs.declared.said.Line.{Line}
 use Rattle.uv_run.specs.declared.said.Left.{Left}
 use Rattle.uv_run.specs.declared.said.Said.{Said}
-use Rattle.uv_run.specs.Playing.{saying_of, item_of, items_of, replies_of, PlaysAll, AnswersAll, all_left, Ends, Follows}
+use Rattle.uv_run.specs.Playing.{saying_of, item_of, items_of, replies_of, PlaysAll, AnswersAll, all_left, Ends, FollowsScript}
 
 -- behind the calls of one history stand those of the lines that led to another, and the replies tell their answers
 record AnswersMore (h : List Entry) (n : ℕ) (lines : List Line) (g : List Entry) (saids : List Said) : Type 0 where
@@ -46,9 +46,9 @@ answers_stay lines h g saids a same = record { answers = a.answers; each = a.eac
 -- lines that were played, and then the end
 pub follows_all :
     (lines : List Line) (played h g : List Entry) (saids : List Said) (left : List Left) → PlaysAll [] 1 lines played saids → left ≡ all_left (state_of played)
-    → Ends played h → IsLegal h → calls_of h 1 ≡ calls_of played 1 → g ≡ h → Follows lines g saids left
+    → Ends played h → IsLegal h → calls_of h 1 ≡ calls_of played 1 → g ≡ h → FollowsScript lines g saids left
 follows_all lines played h g saids left plays told ends legal same is =
-    let P : List Entry → Type 0 = λ v. Follows lines v saids left in
+    let P : List Entry → Type 0 = λ v. FollowsScript lines v saids left in
     subst P (sym is) record {
       played = played;
       plays = plays;

@@ -8,7 +8,7 @@ use Rattle.uv_run.specs.declared.said.Line.{Line}
 use Rattle.uv_run.specs.declared.outcome.Record.{Record}
 use Rattle.uv_run.specs.Script.{script_of}
 use Rattle.uv_run.specs.Report.{report_text, fault_line, too_long_line}
-use Rattle.uv_run.specs.Playing.{Follows, gone_of}
+use Rattle.uv_run.specs.Playing.{FollowsScript, gone_of}
 
 -- nothing is told
 pub record IsEmptyRecord (told : Record) : Type 0 where
@@ -33,7 +33,7 @@ WritesUnlessFault old new before now text = Appends old new text ⊎ IsCutShort 
 pub record RunsBytes (bytes : List ℕ) (told : Record) : Type 0 where
   pub lines : List Line
   pub script : script_of bytes ≡ Ok lines
-  pub follows : Follows lines told.history told.replies told.left
+  pub follows : FollowsScript lines told.history told.replies told.left
 
 -- all that was left was read, it is a script, and the record follows it
 pub record RunsScript (old new : Option (List ℕ)) (told : Record) : Type 0 where

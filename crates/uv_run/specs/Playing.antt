@@ -226,7 +226,7 @@ pub record AnswersAll (lines : List Line) (history : List Entry) (replies : List
   pub told : replies ≡ replies_of 1 answers
 
 -- what is stored and told follows the lines of a script
-pub record Follows (lines : List Line) (history : List Entry) (replies : List Said) (objects : List Left) : Type 0 where
+pub record FollowsScript (lines : List Line) (history : List Entry) (replies : List Said) (objects : List Left) : Type 0 where
   pub played : List Entry
   pub plays : PlaysAll [] 1 lines played replies
   pub left : objects ≡ all_left (state_of played)

@@ -2,7 +2,7 @@
 
 ghost use Rattle.std.specs.Prelude.{◌≡◌, ◌≤◌, IfOk, length};
 ghost use Rattle.uv_num.specs.declared.limits.TheConstants.{SCRIPT_LINES};
-ghost use Rattle.uv_run.specs.Playing.{Follows, gone_of};
+ghost use Rattle.uv_run.specs.Playing.{FollowsScript, gone_of};
 
 use crate::ending::{all_left, end};
 use crate::machine::Machine;
@@ -23,7 +23,7 @@ pub struct Played {
 /// Plays the lines of a script from the beginning, and then closes what they left open.
 pub fn play(alloc: Global, lines: &[Line]) -> Result<Played, AllocError>
     requires { length lines.now ≤ SCRIPT_LINES }
-    ensures follows { IfOk result (λ p. Follows lines.now p.record.history p.record.replies p.record.left) }
+    ensures follows { IfOk result (λ p. FollowsScript lines.now p.record.history p.record.replies p.record.left) }
     ensures gone { IfOk result (λ p. p.gone ≡ gone_of p.record.history) }
 {
     let mut machine = Machine::new(alloc)?;

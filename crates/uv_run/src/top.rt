@@ -6,7 +6,7 @@ ghost use Rattle.uv_num.specs.declared.limits.TheConstants.{SCRIPT_BYTES, SCRIPT
 ghost use Rattle.uv_io.specs.Faults.{Rose};
 ghost use Rattle.uv_io.specs.Whole.{ReadsPrefix, ReadsCount};
 ghost use Rattle.uv_run.specs.Outcome.{IsEmptyRecord, IsCutShort, WritesUnlessFault, RunsBytes, RunsScript, TellsFault, RefusesScript, IsScriptLeft, IsRunOrNoMemory, IsBytesStatus, IsStepsStatus, Reports, ReportsCutShort, FailsReading, RefusesLength, report_of};
-ghost use Rattle.uv_run.specs.Playing.{Follows, gone_of};
+ghost use Rattle.uv_run.specs.Playing.{FollowsScript, gone_of};
 ghost use Rattle.uv_run.specs.Report.{fault_line, too_long_line, usage_line};
 ghost use Rattle.uv_run.specs.Script.{script_of};
 ghost use Rattle.uv_run.specs.Words.{AreSteps};
@@ -76,9 +76,9 @@ fn report_played(alloc: Global, played: &Played) -> Result<Bytes, AllocError>
 fn run_lines<K: Sink>(alloc: Global, lines: &[Line], sink: &mut K) -> Done
     requires { length lines.now ≤ SCRIPT_LINES }
     ensures statuses { IsRunOrNoMemory result.status ⊎ (result.status ≡ 4) }
-    ensures whole { result.status ≡ 0 → Follows lines.now result.told.history result.told.replies result.told.left }
+    ensures whole { result.status ≡ 0 → FollowsScript lines.now result.told.history result.told.replies result.told.left }
     ensures report { result.status ≡ 0 → Appends (K.written sink.old) (K.written sink.new) (report_of result.told) }
-    ensures part { result.status ≡ 4 → Follows lines.now result.told.history result.told.replies result.told.left }
+    ensures part { result.status ≡ 4 → FollowsScript lines.now result.told.history result.told.replies result.told.left }
     ensures cut { result.status ≡ 4 → IsCutShort (K.written sink.old) (K.written sink.new) (K.faults sink.old) (K.faults sink.new) (report_of result.told) }
     ensures silent { result.status ≡ 5 → sink.new ≡ sink.old }
     ensures told { result.status ≡ 5 → IsEmptyRecord result.told }
