@@ -1,0 +1,4 @@
+pub mod Fields
+pub mod Command
+pub mod Reading
+pub mod Refusal
