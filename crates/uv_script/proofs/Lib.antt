@@ -1,0 +1,6 @@
+mod FirstLines
+mod FirstWords
+mod InRange
+mod Joins
+mod Left
+mod Values

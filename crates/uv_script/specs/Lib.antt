@@ -1,0 +1,9 @@
+pub mod Kept
+pub mod Lines
+pub mod Names
+pub mod Numbers
+pub mod Places
+pub mod Ranges
+pub mod Reading
+pub mod Script
+pub mod Words

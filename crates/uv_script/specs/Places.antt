@@ -1,0 +1,30 @@
+-- The words for clients, files and devices: a letter, and a decimal number behind it.
+use Rattle.std.specs.Prelude.{ℕ, ◌==◌, ◌&&◌, nat_lt, nat_le, List, [], ◌∷◌, Option, Some, None, if◌then◌else◌, option_and_then}
+use Rattle.uv_num.specs.declared.limits.TheConstants.{CLIENTS, FILES, DEVICES}
+use Rattle.uv_script.specs.Numbers.{decimal_of}
+
+-- the decimal number behind a letter
+abbrev pub numbered : ℕ → List ℕ → Option ℕ
+numbered letter [] = None
+numbered letter (c ∷ ds) = if c == letter then decimal_of ds else None
+
+abbrev pub as_client : ℕ → Option ℕ
+as_client n = if nat_le 1 n && nat_le n CLIENTS then Some n else None
+
+abbrev pub as_file : ℕ → Option ℕ
+as_file n = if nat_lt n FILES then Some n else None
+
+abbrev pub as_device : ℕ → Option ℕ
+as_device n = if nat_lt n DEVICES then Some n else None
+
+-- `c1` to `c8`
+abbrev pub client_of : List ℕ → Option ℕ
+client_of word = option_and_then as_client (numbered 99 word)
+
+-- `f0` to `f15`
+abbrev pub file_of : List ℕ → Option ℕ
+file_of word = option_and_then as_file (numbered 102 word)
+
+-- `d0` and `d1`
+abbrev pub device_of : List ℕ → Option ℕ
+device_of word = option_and_then as_device (numbered 100 word)

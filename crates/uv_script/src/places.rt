@@ -1,0 +1,74 @@
+//! The words for clients, files and devices.
+
+ghost use Rattle.std.specs.Prelude.{◌≡◌};
+ghost use Rattle.uv_script.specs.Places.{client_of, file_of, device_of, as_client, as_file, as_device, numbered};
+
+use crate::numbers::decimal;
+use uv_num::{CLIENTS, DEVICES, FILES};
+
+/// The client that a word names: `c1` to `c8`.
+pub(crate) fn client(word: &[u8]) -> Option<u32>
+    ensures { result ≡ client_of word.now }
+{
+    as_client(numbered(b'c', word)?)
+}
+
+fn as_client(number: u64) -> Option<u32>
+    ensures { result ≡ as_client number }
+{
+    if 1 <= number && number <= u64::from(CLIENTS) {
+        Some(number as u32)
+    } else {
+        None
+    }
+}
+
+/// The file that a word names: `f0` to `f15`.
+pub(crate) fn file(word: &[u8]) -> Option<u32>
+    ensures { result ≡ file_of word.now }
+{
+    as_file(numbered(b'f', word)?)
+}
+
+fn as_file(number: u64) -> Option<u32>
+    ensures { result ≡ as_file number }
+{
+    if number < FILES as u64 {
+        Some(number as u32)
+    } else {
+        None
+    }
+}
+
+/// The device that a word names: `d0` or `d1`.
+pub(crate) fn device(word: &[u8]) -> Option<u32>
+    ensures { result ≡ device_of word.now }
+{
+    as_device(numbered(b'd', word)?)
+}
+
+fn as_device(number: u64) -> Option<u32>
+    ensures { result ≡ as_device number }
+{
+    if number < DEVICES as u64 {
+        Some(number as u32)
+    } else {
+        None
+    }
+}
+
+/// The decimal number behind a letter.
+fn numbered(letter: u8, word: &[u8]) -> Option<u64>
+    ensures { result ≡ numbered letter word.now }
+{
+    match word {
+        [] => None,
+        [first, digits @ ..] => {
+            if *first == letter {
+                decimal(digits)
+            } else {
+                None
+            }
+        }
+    }
+}
