@@ -6,7 +6,7 @@ use Rattle.std.proofs.lemmas.Bool.{eqb-false}
 use Rattle.uv_num.specs.declared.errno.Errno.{Errno}
 use Rattle.uv_num.specs.declared.kind.Kind.{Kind}
 use Rattle.uv_num.specs.declared.request.Role.{Role}
-use Rattle.uv_num.specs.declared.request.Role.TheVariants.{Creates, Destroys}
+use Rattle.uv_num.specs.declared.request.Role.TheVariants.{Creates, Destroys, Acts}
 use Rattle.uv_num.specs.Request.{role_of}
 use Rattle.uv_machine.specs.declared.entry.Entry.{Entry}
 use Rattle.uv_machine.specs.declared.entry.Entry.TheVariants.{Open, Enter, Step, Tear, Kill, Gone, Closed}
@@ -57,6 +57,7 @@ module _ (m : State) (c b : ℕ) (apart : c ≢ b) where
   make_same : (call : InFlight) (role : Role) → IsSameAt b m (make m c call role)
   make_same call (Creates kind) = make_at_same call kind (home_cell m kind)
   make_same call (Destroys asked) = refl
+  make_same call (Acts act) = refl
 
   stepped_same : (call : InFlight) (w : Word) (o : ℕ) (r : Option Errno) → IsSameAt b m (stepped m c call w o r)
   stepped_same call Reserve o r = unless_refused_same _ r (slice_get-at_place_elsewhere m.calls c b _ apart)

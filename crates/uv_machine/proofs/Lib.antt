@@ -1,5 +1,6 @@
 pub mod Apart
 pub mod Changing
+pub mod FilesApart
 pub mod GoingOn
 pub mod Graph
 pub mod Holding

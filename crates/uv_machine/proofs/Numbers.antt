@@ -11,7 +11,7 @@ use Rattle.uv_num.specs.declared.kind.Kind.{Kind}
 use Rattle.uv_num.specs.declared.qp.QpState.{QpState}
 use Rattle.uv_num.specs.declared.request.Request.{Request}
 use Rattle.uv_num.specs.declared.request.Role.{Role}
-use Rattle.uv_num.specs.declared.request.Role.TheVariants.{Creates, Destroys}
+use Rattle.uv_num.specs.declared.request.Role.TheVariants.{Creates, Destroys, Acts}
 use Rattle.uv_num.specs.declared.limits.TheConstants.{NONE, FILES, HANDLES, MOST_OBJECTS}
 use Rattle.uv_num.specs.Request.{role_of}
 use Rattle.uv_num.specs.Kind.{kind_place}
@@ -211,6 +211,7 @@ make_numbered m c call kind (Some index) numbered stands fits plan =
 makes_numbered : (m : State) (c : ℕ) (call : InFlight) (r : Role) → Numbered m → slice_get m.calls c ≡ Some (Some call) → CallFits call → InPlan call Make → Numbered (make m c call r)
 makes_numbered m c call (Creates kind) numbered stands fits plan = make_numbered m c call kind (home_cell m kind) numbered stands fits plan
 makes_numbered m c call (Destroys asked) numbered stands fits plan = numbered
+makes_numbered m c call (Acts act) numbered stands fits plan = numbered
 
 refusal_numbered : (m : State) (c : ℕ) (call : InFlight) (e : Errno) → Numbered m → slice_get m.calls c ≡ Some (Some call) → CallFits call → Numbered (with_call m c (with_refusal e))
 refusal_numbered m c call e numbered stands fits =
@@ -283,6 +284,7 @@ steps_numbered m c w o found a s numbered =
 early_word : (r : Role) → planned r 0 ≡ Make → ⊥
 early_word (Creates kind) e = absurd cc
 early_word (Destroys asked) e = absurd cc
+early_word (Acts act) e = absurd cc
 
 entered_fits : (f : ℕ) (request : Request) → f < FILES → CallFits (entered f request)
 entered_fits f request within = record { on = within; number = tt; ready = λ _ make. absurd (early_word (role_of request) make) }

@@ -10,7 +10,7 @@ use Rattle.uv_num.specs.Kind.{kind_place}
 use Rattle.uv_num.specs.declared.kind.Kind.{Kind}
 use Rattle.uv_num.specs.declared.qp.QpState.{QpState}
 use Rattle.uv_num.specs.declared.request.Role.{Role}
-use Rattle.uv_num.specs.declared.request.Role.TheVariants.{Creates, Destroys}
+use Rattle.uv_num.specs.declared.request.Role.TheVariants.{Creates, Destroys, Acts}
 use Rattle.uv_num.specs.declared.limits.TheConstants.{NONE, DRIVER}
 use Rattle.uv_num.specs.Request.{role_of}
 use Rattle.uv_num.specs.Place.{at_place}
@@ -37,7 +37,7 @@ use Rattle.uv_machine.specs.Outside.{may_kill, may_kill_object, is_object, is_sw
 use Rattle.uv_machine.specs.Histories.{Allowed, after, kept_in}
 use Rattle.uv_machine.specs.Accounts.{steps_back, steps_behind, new_object_owes, making_owes, call_owes, phase_owes, object_owes, file_phase_owes, file_owes, owed, costs, unless_refused_costs}
 use Rattle.uv_machine.proofs.Sums.{worth, sum_by-at_place_worth, sum_by-filter-le, sum_by-map-le, each_item, sum_by-map-falls, find_passes, find_among, find_among_reverse}
-use Rattle.uv_machine.proofs.Planned.{planned, InPlan, in_plan, never_aborts, only_creates_make}
+use Rattle.uv_machine.proofs.Planned.{planned, InPlan, in_plan, never_aborts, only_creates_make, acts_make_nothing}
 use Rattle.uv_machine.proofs.Stepping.{IsStepOf, IsStepOf-allowed, call_stands, is_exit, refusal_told}
 
 -- Calls.
@@ -68,6 +68,8 @@ plain_pays (Destroys asked) (suc zero) e = omega arith
 plain_pays (Destroys asked) (suc (suc zero)) e = omega arith
 plain_pays (Destroys asked) (suc (suc (suc zero))) e = cc
 plain_pays (Destroys asked) (suc (suc (suc (suc p)))) e = cc
+plain_pays (Acts act) zero e = cc
+plain_pays (Acts act) (suc p) e = cc
 
 -- the step that makes an object takes one, and two for the object
 make_pays : (r : Role) (p : ℕ) → planned r p ≡ Make → plan_owes r (next_place p) + 3 ≤ plan_owes r p
@@ -81,6 +83,8 @@ make_pays (Destroys asked) (suc zero) e = cc
 make_pays (Destroys asked) (suc (suc zero)) e = cc
 make_pays (Destroys asked) (suc (suc (suc zero))) e = cc
 make_pays (Destroys asked) (suc (suc (suc (suc p)))) e = cc
+make_pays (Acts act) zero e = cc
+make_pays (Acts act) (suc p) e = cc
 
 -- a step that may be refused stands far enough from the end
 abbrev pub may_refuse : Word → Bool
@@ -104,6 +108,8 @@ refusal_pays (Destroys asked) (suc zero) e = omega arith
 refusal_pays (Destroys asked) (suc (suc zero)) e = cc
 refusal_pays (Destroys asked) (suc (suc (suc zero))) e = cc
 refusal_pays (Destroys asked) (suc (suc (suc (suc p)))) e = cc
+refusal_pays (Acts act) zero e = cc
+refusal_pays (Acts act) (suc p) e = cc
 
 abbrev pub behind_owes : InFlight → Option Errno → ℕ
 behind_owes call r = steps_behind call r + making_owes call r
@@ -210,6 +216,7 @@ makes_at m c call kind false (Some index) is plan fine =
 makes : (m : State) (c : ℕ) (call : InFlight) (r : Role) → role_of call.request ≡ r → call_of m c ≡ Some call → InPlan call Make → (make_told m r).refusal ≡ None → owed (make m c call r) + 1 ≤ owed m
 makes m c call (Creates kind) role is plan fine = makes_at m c call kind (m.made == NONE) (home_cell m kind) is plan fine
 makes m c call (Destroys asked) role is plan fine = absurd (only_creates_make asked call.place (ap (λ r. planned r call.place) (sym role) ∙ plan.planned))
+makes m c call (Acts act) role is plan fine = absurd (acts_make_nothing act call.place (ap (λ r. planned r call.place) (sym role) ∙ plan.planned))
 
 finishes : (m : State) (c o : ℕ) (call : InFlight) (slot : Option Object) → call_of m c ≡ Some call → InPlan call Finish → owed (with_call (without_object (buried_if_doomed m slot) o) c without_lock) + 1 ≤ owed m
 finishes m c o call slot is plan =

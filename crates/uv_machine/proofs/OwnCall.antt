@@ -8,7 +8,7 @@ use Rattle.uv_num.specs.declared.kind.Kind.{Kind}
 use Rattle.uv_num.specs.declared.limits.TheConstants.{NONE}
 use Rattle.uv_num.specs.declared.qp.QpState.{QpState}
 use Rattle.uv_num.specs.declared.request.Role.{Role}
-use Rattle.uv_num.specs.declared.request.Role.TheVariants.{Creates, Destroys}
+use Rattle.uv_num.specs.declared.request.Role.TheVariants.{Creates, Destroys, Acts}
 use Rattle.uv_num.specs.Request.{role_of}
 use Rattle.uv_num.specs.Kind.{kind_place}
 use Rattle.uv_machine.specs.declared.entry.Word.{Word}
@@ -156,6 +156,7 @@ module _ (m : State) (c : ℕ) (call : InFlight) (is : call_of m c ≡ Some call
   fewer_made_as : (role : Role) (kind : Kind) → role ≡ Creates kind → (make_told m role).refusal ≡ None → IsCreating (role_of call.request) call.refusal call.place 1 → IsFewer (call_of (make m c call role) c) call
   fewer_made_as (Creates k) kind r e s = let found = MakesIn-fine m k e in fewer_made_from k (home_cell m k) found.index found.home s
   fewer_made_as (Destroys asked) kind r e s = absurd (cc)
+  fewer_made_as (Acts act) kind r e s = absurd (cc)
 
   fewer_made : (r : Option Errno) → r ≡ (told m c call Make).refusal → IsCreating (role_of call.request) call.refusal call.place 1 → IsFewer (call_of (unless_refused m c r (make m c call (role_of call.request))) c) call
   fewer_made None e s = fewer_made_as (role_of call.request) s.kind s.creates (sym e) s

@@ -4,7 +4,7 @@ use Rattle.std.proofs.Common.{ap, zero, suc, ◌∙◌, arith}
 use Rattle.uv_num.specs.declared.errno.Errno.{Errno}
 use Rattle.uv_num.specs.declared.kind.Kind.{Kind}
 use Rattle.uv_num.specs.declared.request.Role.{Role}
-use Rattle.uv_num.specs.declared.request.Role.TheVariants.{Creates, Destroys}
+use Rattle.uv_num.specs.declared.request.Role.TheVariants.{Creates, Destroys, Acts}
 use Rattle.uv_num.specs.Request.{role_of}
 use Rattle.uv_machine.specs.declared.entry.Entry.{Entry}
 use Rattle.uv_machine.specs.declared.entry.Entry.TheVariants.{Open, Enter, Step, Tear, Kill, Gone, Closed}
@@ -56,6 +56,7 @@ module _ (m : State) (c : ℕ) where
   files_make : (call : InFlight) (role : Role) → (make m c call role).files ≡ m.files
   files_make call (Creates kind) = files_make_at call kind (home_cell m kind)
   files_make call (Destroys asked) = refl
+  files_make call (Acts act) = refl
 
   files_stepped : (call : InFlight) (w : Word) (o : ℕ) (r : Option Errno) → (stepped m c call w o r).files ≡ m.files
   files_stepped call Reserve o r = files_unless_refused _ r refl

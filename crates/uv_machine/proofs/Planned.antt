@@ -4,9 +4,10 @@ use Rattle.std.proofs.Common.{zero, suc, arith, Bool, true, false, ap, sym, ◌�
 use Rattle.std.proofs.lemmas.Bool.Decides.{nat_tests}
 use Rattle.uv_num.specs.declared.errno.Errno.{Errno}
 use Rattle.uv_num.specs.declared.kind.Kind.{Kind}
+use Rattle.uv_num.specs.declared.request.Act.{Act}
 use Rattle.uv_num.specs.declared.request.Ask.{Ask}
 use Rattle.uv_num.specs.declared.request.Role.{Role}
-use Rattle.uv_num.specs.declared.request.Role.TheVariants.{Creates, Destroys}
+use Rattle.uv_num.specs.declared.request.Role.TheVariants.{Creates, Destroys, Acts}
 use Rattle.uv_num.specs.Request.{role_of}
 use Rattle.uv_machine.specs.declared.entry.Word.{Word}
 use Rattle.uv_machine.specs.declared.entry.Word.TheVariants.{Reserve, Make, Commit, Lock, Check, Finish, Abort, Exit}
@@ -65,6 +66,8 @@ stands_in_plan (Destroys asked) (suc zero) reserved = record { asked = asked; de
 stands_in_plan (Destroys asked) (suc (suc zero)) reserved = record { asked = asked; destroys = refl; fine = refl; here = refl }
 stands_in_plan (Destroys asked) (suc (suc (suc zero))) reserved = tt
 stands_in_plan (Destroys asked) (suc (suc (suc (suc more)))) reserved = tt
+stands_in_plan (Acts act) zero reserved = tt
+stands_in_plan (Acts act) (suc more) reserved = tt
 
 stands_unwound : (role : Role) (e : Errno) (place : ℕ) (reserved : Option ℕ) → StandsAt (unwound reserved) role (Some e) place reserved
 stands_unwound role e place None = tt
@@ -116,6 +119,8 @@ never_aborts (Destroys asked) (suc zero) e = cc
 never_aborts (Destroys asked) (suc (suc zero)) e = cc
 never_aborts (Destroys asked) (suc (suc (suc zero))) e = cc
 never_aborts (Destroys asked) (suc (suc (suc (suc p)))) e = cc
+never_aborts (Acts act) zero e = cc
+never_aborts (Acts act) (suc p) e = cc
 
 pub only_creates_make : (asked : Ask) (p : ℕ) → planned (Destroys asked) p ≡ Make → ⊥
 only_creates_make asked zero e = cc
@@ -123,6 +128,10 @@ only_creates_make asked (suc zero) e = cc
 only_creates_make asked (suc (suc zero)) e = cc
 only_creates_make asked (suc (suc (suc zero))) e = cc
 only_creates_make asked (suc (suc (suc (suc p)))) e = cc
+
+pub acts_make_nothing : (act : Act) (p : ℕ) → planned (Acts act) p ≡ Make → ⊥
+acts_make_nothing act zero e = cc
+acts_make_nothing act (suc p) e = cc
 
 -- a Make comes behind a Reserve alone
 pub make_behind : (r : Role) (p : ℕ) → planned r (p + 1) ≡ Make → planned r p ≡ Reserve
@@ -136,12 +145,15 @@ make_behind (Destroys asked) (suc zero) e = cc
 make_behind (Destroys asked) (suc (suc zero)) e = cc
 make_behind (Destroys asked) (suc (suc (suc zero))) e = cc
 make_behind (Destroys asked) (suc (suc (suc (suc p)))) e = let further : suc (suc (suc (suc (suc p)))) ≡ suc (suc (suc (suc p))) + 1 = omega arith in let exit : planned (Destroys asked) (suc (suc (suc (suc (suc p))))) ≡ Make = ap (planned (Destroys asked)) further ∙ e in absurd cc
+make_behind (Acts act) p e = absurd (acts_make_nothing act (p + 1) e)
 
 far_no_make : (r : Role) (p : ℕ) (more : Bool) → planned r (if more then suc (suc (suc (suc p))) + 1 else suc (suc (suc (suc p)))) ≡ Make → ⊥
 far_no_make (Creates kind) p true e = let same : planned (Creates kind) (suc (suc (suc (suc p)))) ≡ Reserve = make_behind (Creates kind) (suc (suc (suc (suc p)))) e in cc
 far_no_make (Creates kind) p false e = cc
 far_no_make (Destroys asked) p true e = let same : planned (Destroys asked) (suc (suc (suc (suc p)))) ≡ Reserve = make_behind (Destroys asked) (suc (suc (suc (suc p)))) e in cc
 far_no_make (Destroys asked) p false e = cc
+far_no_make (Acts act) p true e = acts_make_nothing act (suc (suc (suc (suc p))) + 1) e
+far_no_make (Acts act) p false e = acts_make_nothing act (suc (suc (suc (suc p)))) e
 
 -- the same of the place that a step leads to
 pub make_behind_next : (r : Role) (p : ℕ) → planned r (next_place p) ≡ Make → planned r p ≡ Reserve

@@ -9,7 +9,7 @@ use Rattle.uv_num.specs.declared.kind.Kind.{Kind}
 use Rattle.uv_num.specs.declared.limits.TheConstants.{FILES}
 use Rattle.uv_num.specs.declared.qp.QpState.{QpState}
 use Rattle.uv_num.specs.declared.request.Role.{Role}
-use Rattle.uv_num.specs.declared.request.Role.TheVariants.{Creates, Destroys}
+use Rattle.uv_num.specs.declared.request.Role.TheVariants.{Creates, Destroys, Acts}
 use Rattle.uv_num.specs.Request.{role_of}
 use Rattle.uv_num.specs.Place.{at_place}
 use Rattle.uv_machine.specs.declared.state.TheConstants.{ACTOR_PLACES}
@@ -85,6 +85,7 @@ module _ (m : State) (c : ℕ) (r : Reached m) (call : InFlight) (is : call_of m
       let found = MakesIn-fine m k fine in
       made_from k (home_cell m k) found.index found.home (Reached-make m c r call is (object_made m call k found.index) word stands found.fresh refl refl refl)
   made_as (Destroys asked) kind e fine word stands = absurd (cc)
+  made_as (Acts act) kind e fine word stands = absurd (cc)
 
   made : (e : Option Errno) → e ≡ (told m c call Make).refusal → next_word call ≡ Make → IsCreating (role_of call.request) call.refusal call.place 1 → Reached (unless_refused m c e (make m c call (role_of call.request)))
   made None e word stands = made_as (role_of call.request) stands.kind stands.creates (sym e) word stands

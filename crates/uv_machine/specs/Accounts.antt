@@ -3,7 +3,7 @@
 use Rattle.std.specs.Prelude.{ℕ, ◌+◌, ◌-◌, Option, None, Some, if◌then◌else◌, length, sum_by, nat_le}
 use Rattle.uv_num.specs.declared.errno.Errno.{Errno}
 use Rattle.uv_num.specs.declared.request.Role.{Role}
-use Rattle.uv_num.specs.declared.request.Role.TheVariants.{Creates, Destroys}
+use Rattle.uv_num.specs.declared.request.Role.TheVariants.{Creates, Destroys, Acts}
 use Rattle.uv_num.specs.Request.{role_of}
 use Rattle.uv_machine.specs.declared.entry.Entry.{Entry}
 use Rattle.uv_machine.specs.declared.entry.Entry.TheVariants.{Open, Enter, Step, Tear, Kill, Gone, Closed}
@@ -36,6 +36,7 @@ steps_ahead (Some call) = steps_behind call call.refusal
 abbrev pub new_object_owes : Role → ℕ → ℕ
 new_object_owes (Creates kind) place = if nat_le place 1 then 2 else 0
 new_object_owes (Destroys asked) place = 0
+new_object_owes (Acts act) place = 0
 
 abbrev pub making_owes : InFlight → Option Errno → ℕ
 making_owes call None = new_object_owes (role_of call.request) call.place

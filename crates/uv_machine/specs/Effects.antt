@@ -5,7 +5,7 @@ use Rattle.uv_num.specs.Kind.{kind_place}
 use Rattle.uv_num.specs.Place.{at_place}
 use Rattle.uv_num.specs.declared.errno.Errno.{Errno}
 use Rattle.uv_num.specs.declared.request.Role.{Role}
-use Rattle.uv_num.specs.declared.request.Role.TheVariants.{Creates, Destroys}
+use Rattle.uv_num.specs.declared.request.Role.TheVariants.{Creates, Destroys, Acts}
 use Rattle.uv_num.specs.Request.{role_of}
 use Rattle.uv_num.specs.declared.limits.TheConstants.{NONE}
 use Rattle.uv_machine.specs.declared.entry.Word.{Word}
@@ -114,6 +114,7 @@ make_at m c call kind (Some index) = with_new m c (new_object m call kind index 
 abbrev pub make : State → ℕ → InFlight → Role → State
 make m c call (Creates kind) = make_at m c call kind (home_cell m kind)
 make m c call (Destroys asked) = m
+make m c call (Acts act) = m
 
 abbrev pub commit : State → ℕ → ℕ → State
 commit m c o = with_call (with_object m o ToLive) c without_lock

@@ -12,7 +12,7 @@ use Rattle.uv_machine.specs.Plans.{entered}
 use Rattle.uv_machine.specs.States.{call_of, object_with, start}
 use Rattle.uv_machine.specs.Steps.{next_of}
 use Rattle.uv_machine.specs.Effects.{after_open, after_enter, after_step, after_closed, with_file, in_phase, with_object, gone_from}
-use Rattle.uv_machine.specs.Outside.{MayAnswer, open_refusal, enter_refusal, may_tear, may_kill, may_go, may_close}
+use Rattle.uv_machine.specs.Outside.{MayAnswer, open_refusal, has_plan, enter_refusal, may_tear, may_kill, may_go, may_close}
 use Rattle.uv_machine.specs.declared.object.Change.TheVariants.{ToDoomed}
 
 abbrev pub IsActor : ℕ → Type 0
@@ -32,7 +32,7 @@ IsNext m c d = next_of m c d.found (kept_in d.answer) ≡ Some d
 -- the machine allows this entry now
 abbrev pub Allowed : State → Entry → Type 0
 Allowed m (Open c f d a) = IsActor c × (f < FILES) × (d < DEVICES) × MayAnswer (open_refusal m f d) a
-Allowed m (Enter c f request a) = IsActor c × (f < FILES) × (call_of m c ≡ None) × MayAnswer (enter_refusal m f request) a
+Allowed m (Enter c f request a) = IsActor c × (f < FILES) × (call_of m c ≡ None) × IsTrue (has_plan request) × MayAnswer (enter_refusal m f request) a
 Allowed m (Step c w o found a) = IsActor c × IsNext m c (record { word = w; object = o; found = found; answer = a })
 Allowed m (Tear f by) = IsActor by × (f < FILES) × IsTrue (may_tear m f by)
 Allowed m (Kill o) = IsTrue (may_kill m o)

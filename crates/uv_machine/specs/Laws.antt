@@ -157,3 +157,16 @@ moves_file (Closed f) = true
 
 abbrev pub PhasesStandApart : Type 0
 PhasesStandApart = (m : State) (e : Entry) (f : ℕ) → moves_file e ≡ false → phase_of (after m e) f ≡ phase_of m f
+
+-- the entry moves this file to another phase
+abbrev pub moves : ℕ → Entry → Bool
+moves g (Open c f d a) = f == g
+moves g (Enter c f request a) = false
+moves g (Step c w o found a) = false
+moves g (Tear f by) = f == g
+moves g (Kill o) = false
+moves g (Gone o kept) = false
+moves g (Closed f) = f == g
+
+abbrev pub FilesStandApart : Type 0
+FilesStandApart = (m : State) (e : Entry) (g : ℕ) → moves g e ≡ false → phase_of (after m e) g ≡ phase_of m g

@@ -4,7 +4,7 @@ use Rattle.uv_num.specs.declared.errno.Errno.{Errno}
 use Rattle.uv_num.specs.declared.limits.TheConstants.{NONE}
 use Rattle.uv_num.specs.declared.request.Request.{Request}
 use Rattle.uv_num.specs.declared.request.Role.{Role}
-use Rattle.uv_num.specs.declared.request.Role.TheVariants.{Creates, Destroys}
+use Rattle.uv_num.specs.declared.request.Role.TheVariants.{Creates, Destroys, Acts}
 use Rattle.uv_num.specs.Request.{role_of}
 use Rattle.uv_machine.specs.declared.entry.Word.{Word}
 use Rattle.uv_machine.specs.declared.entry.Word.TheVariants.{Reserve, Make, Commit, Lock, Check, Finish, Abort, Exit}
@@ -17,6 +17,7 @@ use Rattle.uv_machine.specs.declared.call.InFlight.{InFlight}
 abbrev pub plan_of : Role → List Word
 plan_of (Creates kind) = Reserve ∷ Make ∷ Commit ∷ Exit ∷ []
 plan_of (Destroys asked) = Lock ∷ Check ∷ Finish ∷ Exit ∷ []
+plan_of (Acts act) = Exit ∷ []
 
 -- behind a refusal: the number that was set aside goes back, and then the call ends
 abbrev pub unwound : Option ℕ → Word

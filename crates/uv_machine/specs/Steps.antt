@@ -8,7 +8,7 @@ use Rattle.uv_num.specs.declared.errno.Errno.TheVariants.{NoEnt, Busy, Inval, No
 use Rattle.uv_num.specs.declared.qp.QpState.{QpState}
 use Rattle.uv_num.specs.declared.request.Ask.{Ask}
 use Rattle.uv_num.specs.declared.request.Role.{Role}
-use Rattle.uv_num.specs.declared.request.Role.TheVariants.{Creates, Destroys}
+use Rattle.uv_num.specs.declared.request.Role.TheVariants.{Creates, Destroys, Acts}
 use Rattle.uv_num.specs.Request.{role_of}
 use Rattle.uv_num.specs.declared.limits.TheConstants.{NONE}
 use Rattle.uv_machine.specs.declared.entry.Word.{Word}
@@ -46,6 +46,7 @@ make_of m kind = if m.made == NONE then refused_told NoSpc else cell_told m (hom
 abbrev pub make_told : State → Role → Told
 make_told m (Creates kind) = make_of m kind
 make_told m (Destroys asked) = plain_told
+make_told m (Acts act) = plain_told
 
 -- Lock: the object must be of the kind, and no other call may hold it
 abbrev pub lock_refusal : State → ℕ → Ask → Object → Option Errno
@@ -64,6 +65,7 @@ lock_of m c f asked = lock_found m c asked (published m f asked.handle)
 abbrev pub lock_told : State → ℕ → ℕ → Role → Told
 lock_told m c f (Creates kind) = plain_told
 lock_told m c f (Destroys asked) = lock_of m c f asked
+lock_told m c f (Acts act) = plain_told
 
 -- Check: nothing may use the object
 abbrev pub check_told : State → ℕ → Told

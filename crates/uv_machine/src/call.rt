@@ -31,6 +31,8 @@ const CREATE: [Word; 4] = [Word::Reserve, Word::Make, Word::Commit, Word::Exit];
 
 const DESTROY: [Word; 4] = [Word::Lock, Word::Check, Word::Finish, Word::Exit];
 
+const ACT: [Word; 1] = [Word::Exit];
+
 impl InFlight {
     /// A call that has just entered.
     pub fn entered(file: u32, request: Request) -> InFlight
@@ -81,6 +83,7 @@ fn planned(role: Role, place: u32) -> Word
     match role {
         Role::Creates(_) => create_word(place),
         Role::Destroys(_) => destroy_word(place),
+        Role::Acts(_) => act_word(place),
     }
 }
 
@@ -94,6 +97,12 @@ fn destroy_word(place: u32) -> Word
     ensures { result ≡ unwrap_or (slice_get (Lock ∷ Check ∷ Finish ∷ Exit ∷ []) place) Exit }
 {
     DESTROY.get(place as usize).copied().unwrap_or(Word::Exit)
+}
+
+fn act_word(place: u32) -> Word
+    ensures { result ≡ unwrap_or (slice_get (Exit ∷ []) place) Exit }
+{
+    ACT.get(place as usize).copied().unwrap_or(Word::Exit)
 }
 
 fn unwound(reserved: Option<u32>) -> Word

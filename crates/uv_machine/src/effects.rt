@@ -61,7 +61,7 @@ impl State {
     {
         match call.request.role() {
             Role::Creates(kind) => self.make_at(actor, call, kind, self.home_cell(kind)),
-            Role::Destroys(_) => {}
+            Role::Destroys(_) | Role::Acts(_) => {}
         }
     }
 

@@ -6,7 +6,7 @@ ghost use Rattle.uv_machine.specs.declared.entry.Entry.TheVariants.{Open, Enter,
 ghost use Rattle.uv_machine.specs.Histories.{IsActor, kept_in, IsNext, Allowed, IsLegal, IsFirstBad};
 
 use crate::entry::{Answer, Done, Entry, Word};
-use crate::outside::may_answer;
+use crate::outside::{has_plan, may_answer};
 use crate::state::State;
 use std::alloc::{AllocError, Global};
 use uv_num::{ACTORS, DEVICES, FILES, QpState, Request};
@@ -58,6 +58,7 @@ impl State {
         is_actor(client)
             && is_file(file)
             && self.call_of(client).is_none()
+            && has_plan(request)
             && may_answer(self.enter_refusal(file, request), answer)
     }
 

@@ -13,6 +13,6 @@ pub use calls::{
 pub use histories::{legal_goes_on, state_goes_on};
 pub use numbers::make_has_room;
 pub use teardowns::{
-    open_is_open, phases_stand_apart, sweep_begins, sweep_ends, sweep_goes_on, sweep_kills,
-    sweep_releases, sweep_shows,
+    files_stand_apart, open_is_open, phases_stand_apart, sweep_begins, sweep_ends, sweep_goes_on,
+    sweep_kills, sweep_releases, sweep_shows,
 };

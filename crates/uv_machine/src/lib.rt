@@ -26,9 +26,10 @@ pub use entry::{Answer, Done, Entry, Word};
 pub use file::{File, FilePhase};
 pub use judging::first_bad;
 pub use laws::{
-    calls_stand_apart, enters_with_four, idle_is_quiet, legal_goes_on, make_has_place,
-    make_has_room, open_is_open, owed_covers, phases_stand_apart, state_goes_on, steps_run_out,
-    sweep_begins, sweep_ends, sweep_goes_on, sweep_kills, sweep_releases, sweep_shows,
+    calls_stand_apart, enters_with_four, files_stand_apart, idle_is_quiet, legal_goes_on,
+    make_has_place, make_has_room, open_is_open, owed_covers, phases_stand_apart, state_goes_on,
+    steps_run_out, sweep_begins, sweep_ends, sweep_goes_on, sweep_kills, sweep_releases,
+    sweep_shows,
 };
 pub use object::{Change, Object, Phase};
 pub use pool::{Cell, Pool};

@@ -1,14 +1,14 @@
 //! The outside rule: when the entries may come that no call makes by itself.
 
 ghost use Rattle.std.specs.Prelude.{◌≡◌, ◌↔◌, IsTrue};
-ghost use Rattle.uv_machine.specs.Outside.{MayAnswer, open_refusal, needs_device, enter_refusal, may_tear, is_swept, is_object, may_kill_in, may_kill_object, may_kill, may_go_object, may_go, may_close};
+ghost use Rattle.uv_machine.specs.Outside.{MayAnswer, open_refusal, has_plan, act_needs_device, needs_device, enter_refusal, may_tear, is_swept, is_object, may_kill_in, may_kill_object, may_kill, may_go_object, may_go, may_close};
 ghost use Rattle.uv_machine.specs.States.{is_fresh, is_open, is_callable, is_tearing, is_closing};
 
 use crate::entry::Answer;
 use crate::file::FilePhase;
 use crate::object::Object;
 use crate::state::State;
-use uv_num::{DRIVER, Errno, Request, Role};
+use uv_num::{Act, DRIVER, Errno, Request, Role};
 
 impl FilePhase {
     /// Whether the file was never opened.
@@ -156,6 +156,43 @@ fn needs_device(role: Role) -> bool
     match role {
         Role::Creates(_) => true,
         Role::Destroys(_) => false,
+        Role::Acts(act) => act_needs_device(act),
+    }
+}
+
+fn act_needs_device(act: Act) -> bool
+    ensures { result ≡ act_needs_device act }
+{
+    match act {
+        Act::Modify | Act::Query | Act::Bind => true,
+        Act::Async => false,
+    }
+}
+
+/// Whether the machine has a plan for a request: no other enters.
+pub fn has_plan(request: Request) -> bool
+    ensures { result ≡ has_plan request }
+{
+    match request {
+        Request::AllocPd | Request::DeallocPd { .. } => true,
+        Request::CreateChannel
+        | Request::DestroyChannel { .. }
+        | Request::CreateCq { .. }
+        | Request::DestroyCq { .. }
+        | Request::CreateQp { .. }
+        | Request::DestroyQp { .. }
+        | Request::ModifyQp { .. }
+        | Request::QueryQp { .. }
+        | Request::CreateSrq { .. }
+        | Request::DestroySrq { .. }
+        | Request::CreateAh { .. }
+        | Request::DestroyAh { .. }
+        | Request::RegMr { .. }
+        | Request::DeregMr { .. }
+        | Request::AllocMw { .. }
+        | Request::DeallocMw { .. }
+        | Request::BindMw { .. }
+        | Request::GetAsync => false,
     }
 }
 

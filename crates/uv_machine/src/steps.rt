@@ -74,7 +74,7 @@ impl State {
     {
         match role {
             Role::Creates(kind) => self.make_of(kind),
-            Role::Destroys(_) => plain(),
+            Role::Destroys(_) | Role::Acts(_) => plain(),
         }
     }
 
@@ -103,7 +103,7 @@ impl State {
         ensures { result ≡ lock_told self.now actor file role }
     {
         match role {
-            Role::Creates(_) => plain(),
+            Role::Creates(_) | Role::Acts(_) => plain(),
             Role::Destroys(asked) => self.lock_of(actor, file, asked),
         }
     }

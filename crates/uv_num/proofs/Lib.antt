@@ -1,3 +1,4 @@
+pub mod Alike
 pub mod EachLaws
 pub mod Maps
 pub mod PlaceLaws

@@ -1,3 +1,5 @@
+pub mod Access
+pub mod Attrs
 pub mod BytesLending
 pub mod Each
 pub mod Errno
@@ -5,10 +7,12 @@ pub mod Filled
 pub mod Ids
 pub mod Kind
 pub mod ListLending
+pub mod Modify
 pub mod Place
 pub mod Prefix
 pub mod Qp
 pub mod Request
+pub mod Ranges
 pub mod RoomLending
 pub mod StockLending
 pub mod Stocked

@@ -1,11 +1,36 @@
 -- What each request does to the object graph: a row for each request.
-use Rattle.uv_num.specs.declared.kind.Kind.TheVariants.{Pd}
+use Rattle.std.specs.Prelude.{ℕ}
+use Rattle.uv_num.specs.declared.kind.Kind.{Kind}
+use Rattle.uv_num.specs.declared.kind.Kind.TheVariants.{Pd, Channel, Cq, Qp, Srq, Ah, Mr, Mw}
+use Rattle.uv_num.specs.declared.request.Act.TheVariants.{Modify, Query, Bind, Async}
 use Rattle.uv_num.specs.declared.request.Request.{Request}
-use Rattle.uv_num.specs.declared.request.Request.TheVariants.{AllocPd, DeallocPd}
+use Rattle.uv_num.specs.declared.request.Request.TheVariants.{AllocPd, DeallocPd, CreateChannel, DestroyChannel, CreateCq, DestroyCq, CreateQp, DestroyQp, ModifyQp, QueryQp, CreateSrq, DestroySrq, CreateAh, DestroyAh, RegMr, DeregMr, AllocMw, DeallocMw, BindMw, GetAsync}
 use Rattle.uv_num.specs.declared.request.Role.{Role}
-use Rattle.uv_num.specs.declared.request.Role.TheVariants.{Creates, Destroys}
+use Rattle.uv_num.specs.declared.request.Role.TheVariants.{Creates, Destroys, Acts}
+
+-- the destroy of the object of this kind and handle
+abbrev pub destroys : Kind → ℕ → Role
+destroys kind handle = Destroys (record { kind = kind; handle = handle })
 
 -- what a request does to the object graph
 abbrev pub role_of : Request → Role
 role_of AllocPd = Creates Pd
-role_of (DeallocPd pd) = Destroys (record { kind = Pd; handle = pd })
+role_of (DeallocPd pd) = destroys Pd pd
+role_of CreateChannel = Creates Channel
+role_of (DestroyChannel channel) = destroys Channel channel
+role_of (CreateCq depth channel) = Creates Cq
+role_of (DestroyCq cq) = destroys Cq cq
+role_of (CreateQp pd send_cq recv_cq srq service send_depth recv_depth) = Creates Qp
+role_of (DestroyQp qp) = destroys Qp qp
+role_of (ModifyQp qp to attrs) = Acts Modify
+role_of (QueryQp qp) = Acts Query
+role_of (CreateSrq pd depth) = Creates Srq
+role_of (DestroySrq srq) = destroys Srq srq
+role_of (CreateAh pd device) = Creates Ah
+role_of (DestroyAh ah) = destroys Ah ah
+role_of (RegMr pd length access) = Creates Mr
+role_of (DeregMr mr) = destroys Mr mr
+role_of (AllocMw pd) = Creates Mw
+role_of (DeallocMw mw) = destroys Mw mw
+role_of (BindMw mw mr offset length access) = Acts Bind
+role_of GetAsync = Acts Async

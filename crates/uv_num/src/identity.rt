@@ -36,7 +36,7 @@ fn have_same_ids(one: Identity, other: Identity) -> bool
 fn have_same_making(one: Identity, other: Identity) -> bool
     ensures { IsTrue result ↔ ((one.kind ≡ other.kind) × (one.request ≡ other.request)) }
 {
-    one.kind == other.kind && one.request == other.request
+    one.request.is_same(other.request) && one.kind == other.kind
 }
 
 #[cfg(test)]
@@ -56,8 +56,13 @@ mod tests {
             uses: Ids::one(1),
             ..one
         };
+        let elsewhere = Identity {
+            request: Request::AllocMw { pd: 2 },
+            ..one
+        };
         assert!(rt; one.is_same(one));
         assert!(rt; !one.is_same(other));
+        assert!(rt; !one.is_same(elsewhere));
         Ok(())
     }
 }

@@ -1,10 +1,14 @@
-//! What every layer speaks: the kinds of objects and their ranks, the errnos, the states of a queue pair,
-//! requests with their handles, the limits, and the lists that the other crates keep their values in.
+//! What every layer speaks: the kinds of objects and their ranks, the errnos, the states of a queue pair and its
+//! moves between them, requests with their handles and the attributes of a modify, access rights, the limits, and
+//! the lists that the other crates keep their values in.
 //!
-//! Nothing here has state or takes a decision. The layers above read the tables by `number`, `rank` and
-//! `role`, and see `List` and `Room` as plain lists, so no contract there speaks of a buffer.
+//! Nothing here has state, and what is decided is read off a table. The layers above read the tables by `number`,
+//! `rank`, `role` and `modify`, cite the ranges of requests in `specs/Ranges.antt`, and see `List` and `Room` as
+//! plain lists, so no contract there speaks of a buffer.
 #![tactic(auto)]
 
+mod access;
+mod attrs;
 mod bytes;
 mod errno;
 mod identity;
@@ -16,7 +20,13 @@ mod qp;
 mod request;
 mod room;
 mod stock;
+mod transport;
 
+pub use access::{
+    ACCESS_LOCAL_WRITE, ACCESS_MW_BIND, ACCESS_REMOTE_ATOMIC, ACCESS_REMOTE_READ,
+    ACCESS_REMOTE_WRITE, QP_ACCESS, REGION_ACCESS, WINDOW_ACCESS,
+};
+pub use attrs::{QP_ATTRS, QpAttr, QpAttrs};
 pub use bytes::Bytes;
 pub use errno::Errno;
 pub use identity::Identity;
@@ -24,11 +34,13 @@ pub use ids::Ids;
 pub use kind::Kind;
 pub use limits::{
     ACTORS, CELLS, CHANNEL_EVENTS, CLIENTS, CQ_DEPTH, DEVICES, DRIVER, ENDER, FILES, HANDLES,
-    KINDS, LINK_FRAMES, MOST_GENERATION, MOST_OBJECTS, NONE, PACKET_WORKERS, QUEUE_DEPTH,
+    HEX_DIGITS, KINDS, LINK_FRAMES, MOST_GENERATION, MOST_OBJECTS, MOST_READS, MOST_RETRIES,
+    MOST_TIME, MTUS, NONE, PACKET_WORKERS, PKEYS, PORTS, PSNS, QKEYS, QP_NUMBERS, QUEUE_DEPTH,
     REGION_BYTES, SCRIPT_BYTES, SCRIPT_LINES, SCRIPT_POSTS, WORK_BYTES, WORK_PARTS,
 };
 pub use list::List;
 pub use qp::{QpState, Service};
-pub use request::{Ask, Request, Role};
+pub use request::{Act, Ask, Request, Role};
 pub use room::Room;
 pub use stock::Stock;
+pub use transport::modify;

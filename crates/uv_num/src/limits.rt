@@ -57,6 +57,34 @@ pub const CQ_DEPTH: usize = 1_024;
 /// The events of a completion channel.
 pub const CHANNEL_EVENTS: usize = 1_024;
 
+/// The ports of a device, numbered from 1.
+pub const PORTS: u64 = 1;
+
+/// The entries of a port's table of partition keys, numbered from 0.
+pub const PKEYS: u64 = 1;
+
+/// The Q_Keys, from 0: they have 32 bits.
+pub const QKEYS: u64 = 1 << 32;
+
+/// The packet sequence numbers, from 0: they have 24 bits.
+pub const PSNS: u64 = 1 << 24;
+
+/// The numbers of queue pairs, from 0: they have 24 bits.
+pub const QP_NUMBERS: u64 = 1 << 24;
+
+/// The path MTUs, in bytes: those of `enum ib_mtu` of Linux (`rdma/ib_verbs.h`).
+pub const MTUS: [u64; 5] = [256, 512, 1_024, 2_048, 4_096];
+
+/// The last code of a time: the timeout of a sender, and the wait that a receiver asks for when it isn't ready
+/// (`enum ib_rnr_timeout` of `rdma/ib_verbs.h`). They have 5 bits.
+pub const MOST_TIME: u64 = 31;
+
+/// The most resends that a queue pair counts: the counts have 3 bits.
+pub const MOST_RETRIES: u64 = 7;
+
+/// The reads that a queue pair may have outstanding, on either side.
+pub const MOST_READS: u64 = 16;
+
 /// The frames on the link between the devices.
 pub const LINK_FRAMES: usize = 1_024;
 
@@ -65,6 +93,9 @@ pub const SCRIPT_BYTES: usize = 1_048_576;
 
 /// The lines of a script.
 pub const SCRIPT_LINES: usize = 20_000;
+
+/// The hexadecimal digits with which a script spells bytes, two for each byte.
+pub const HEX_DIGITS: usize = 8_192;
 
 /// The posts of a script.
 pub const SCRIPT_POSTS: usize = 4_000;

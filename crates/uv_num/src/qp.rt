@@ -1,7 +1,7 @@
 //! The states and services of a queue pair.
 
 ghost use Rattle.std.specs.Prelude.{◌≡◌};
-ghost use Rattle.uv_num.specs.Qp.{qp_state_number, service_number};
+ghost use Rattle.uv_num.specs.Qp.{qp_state_number, qp_state_of, service_number, service_of};
 
 /// A state of a queue pair. Linux's states between (SQD and SQE) aren't modelled.
 #[derive(Clone, Copy, Debug, PartialEq, Eq)]
@@ -31,6 +31,20 @@ impl QpState {
             QpState::Err => 6,
         }
     }
+
+    /// The state that has this number, if one has.
+    pub fn from_number(number: u64) -> Option<QpState>
+        ensures { result ≡ qp_state_of number }
+    {
+        match number {
+            0 => Some(QpState::Reset),
+            1 => Some(QpState::Init),
+            2 => Some(QpState::Rtr),
+            3 => Some(QpState::Rts),
+            6 => Some(QpState::Err),
+            _ => None,
+        }
+    }
 }
 
 /// The service that a queue pair gives.
@@ -52,6 +66,17 @@ impl Service {
             Service::Ud => 4,
         }
     }
+
+    /// The service that has this number, if one has.
+    pub fn from_number(number: u64) -> Option<Service>
+        ensures { result ≡ service_of number }
+    {
+        match number {
+            2 => Some(Service::Rc),
+            4 => Some(Service::Ud),
+            _ => None,
+        }
+    }
 }
 
 #[cfg(test)]
@@ -69,5 +94,24 @@ mod tests {
         assert_eq!(rt; Service::Rc.number(), 2);
         assert_eq!(rt; Service::Ud.number(), 4);
         Ok(())
+    }
+
+    #[test]
+    fn numbers_name_states_and_services(rt: HostRuntime) {
+        let rows = [
+            (0, Some(QpState::Reset), None),
+            (1, Some(QpState::Init), None),
+            (2, Some(QpState::Rtr), Some(Service::Rc)),
+            (3, Some(QpState::Rts), None),
+            (4, None, Some(Service::Ud)),
+            (5, None, None),
+            (6, Some(QpState::Err), None),
+            (7, None, None),
+            (u64::MAX, None, None),
+        ];
+        for (number, state, service) in rows.iter() {
+            assert_eq!(rt; QpState::from_number(*number), *state);
+            assert_eq!(rt; Service::from_number(*number), *service);
+        }
     }
 }

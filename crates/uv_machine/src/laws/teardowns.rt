@@ -1,6 +1,6 @@
 //! Laws on the teardown of a file, once no call is in flight.
 
-ghost use Rattle.uv_machine.specs.Laws.{SweepBegins, SweepKills, SweepReleases, SweepGoesOn, SweepEnds, SweepShows, OpenIsOpen, PhasesStandApart};
+ghost use Rattle.uv_machine.specs.Laws.{SweepBegins, SweepKills, SweepReleases, SweepGoesOn, SweepEnds, SweepShows, OpenIsOpen, PhasesStandApart, FilesStandApart};
 
 /// A tear of an open file begins a sweep.
 pub fn sweep_begins()
@@ -40,4 +40,9 @@ pub fn open_is_open()
 /// Calls, and the kills and releases of objects, leave every file's phase as it was.
 pub fn phases_stand_apart()
     ensures { PhasesStandApart }
+{}
+
+/// An entry of one file leaves every other file's phase as it was.
+pub fn files_stand_apart()
+    ensures { FilesStandApart }
 {}
