@@ -1,17 +1,21 @@
 -- What a line says is in its ranges.
-use Rattle.std.proofs.Common.{◌≡◌, ℕ, zero, suc, ◌<◌, ◌≤◌, List, [], ◌∷◌, ◌++◌, length, get_or, refl, sym, ap, subst, arith, Bool, true, false, cond, not, ◌&&◌, nat_lt, nat_le, Option, Some, None, option_and_then}
+use Rattle.std.proofs.Common.{◌≡◌, ℕ, zero, suc, ◌<◌, ◌≤◌, List, [], ◌∷◌, ◌++◌, length, get_or, refl, sym, ap, subst, arith, Bool, true, false, cond, not, ◌&&◌, nat_lt, nat_le, Option, Some, None, option_and_then, Result, Ok, Err}
 use Rattle.std.proofs.lemmas.Bool.{ltb-true, leb-true, and_parts}
 use Rattle.std.proofs.lemmas.List.Elements.{All-append}
 use Rattle.std.specs.List.{All}
+use Rattle.uv_num.specs.declared.errno.Errno.{Errno}
+use Rattle.uv_num.specs.declared.request.Request.{Request}
+use Rattle.uv_schema.specs.Commands.{command_of}
+use Rattle.uv_script.specs.Built.{is_built}
 use Rattle.uv_script.specs.Lines.{text_of, is_plain_text}
 use Rattle.uv_script.specs.Words.{words_of, only_of}
 use Rattle.uv_script.specs.Names.{Look}
 use Rattle.uv_script.specs.Places.{numbered, as_client, as_file, as_device, client_of, file_of, device_of}
 use Rattle.uv_script.specs.Ranges.{IsCaller, HasRanges, IsInRange}
-use Rattle.uv_script.specs.Reading.{Reading, Outside, Nothing, Says, Declares, reading_of, text_reading, is_remark, words_reading, with_client, behind_client, with_file, behind_file, with_verb, verb_of, behind_verb, says_open, says_dealloc_pd, create, named, is_free, device_operand, handle_operand}
+use Rattle.uv_script.specs.Reading.{Reading, Outside, Nothing, Says, Declares, reading_of, text_reading, is_remark, words_reading, with_client, behind_client, with_file, behind_file, with_verb, verb_of, behind_verb, says_open, says_dealloc_pd, says_command, says_raw, create, named, is_free, device_operand, handle_operand, bytes_operand}
 use Rattle.uv_script.specs.Script.{reading_at, lines_at}
 use Rattle.uv_script.specs.declared.form.Form.{Form}
-use Rattle.uv_script.specs.declared.form.Form.TheVariants.{AllocPd}
+use Rattle.uv_script.specs.declared.form.Form.TheVariants.{AllocPd, Raw}
 use Rattle.uv_script.specs.declared.form.Handle.{Handle}
 use Rattle.uv_script.specs.declared.form.Line.{Line}
 use Rattle.uv_script.specs.declared.reading.Verb.{Verb}
@@ -81,10 +85,23 @@ says_dealloc_pd-range : (client file : ℕ) (pd : Option Handle) → IsCaller cl
 says_dealloc_pd-range client file None caller = tt
 says_dealloc_pd-range client file (Some pd) caller = caller
 
+built-range : (client file : ℕ) (request : Request) (b : Bool) → is_built request ≡ b → IsCaller client file → IsReadInRange (cond b (Says (Raw client file (Ok request))) Outside)
+built-range client file request true is caller = (caller, is)
+built-range client file request false is caller = tt
+
+says_command-range : (client file : ℕ) (command : Result Request Errno) → IsCaller client file → IsReadInRange (says_command client file command)
+says_command-range client file (Err errno) caller = (caller, tt)
+says_command-range client file (Ok request) caller = built-range client file request (is_built request) refl caller
+
+says_raw-range : (client file : ℕ) (bytes : Option (List ℕ)) → IsCaller client file → IsReadInRange (says_raw client file bytes)
+says_raw-range client file None caller = tt
+says_raw-range client file (Some bytes) caller = says_command-range client file (command_of bytes) caller
+
 behind_verb-range : (look : Look) (v : Verb) (client file : ℕ) (words : List (List ℕ)) → IsCaller client file → IsReadInRange (behind_verb look v client file words)
 behind_verb-range look verb.Open client file words caller = says_open-range client file (device_operand words) caller (device_operand-range words)
 behind_verb-range look verb.AllocPd client file words caller = create-range look (AllocPd client file) words caller
 behind_verb-range look verb.DeallocPd client file words caller = says_dealloc_pd-range client file (handle_operand look words) caller
+behind_verb-range look verb.Raw client file words caller = says_raw-range client file (bytes_operand words) caller
 
 with_verb-range : (look : Look) (client file : ℕ) (words : List (List ℕ)) (v : Option Verb) → IsCaller client file → IsReadInRange (with_verb look client file words v)
 with_verb-range look client file words None caller = tt

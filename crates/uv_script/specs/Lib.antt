@@ -1,3 +1,5 @@
+pub mod Built
+pub mod Bytes
 pub mod Kept
 pub mod Lines
 pub mod Names

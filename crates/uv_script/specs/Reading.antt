@@ -1,8 +1,13 @@
 -- What a line says.
-use Rattle.std.specs.Prelude.{ℕ, Bool, ◌==◌, ◌&&◌, nat_eq, nat_le, not, List, [], ◌∷◌, drop, slice_index, codes, Option, Some, None, is_none, if◌then◌else◌, option_and_then}
+use Rattle.std.specs.Prelude.{ℕ, Bool, ◌==◌, ◌&&◌, nat_eq, nat_le, not, List, [], ◌∷◌, drop, slice_index, codes, Option, Some, None, is_none, Result, Ok, Err, if◌then◌else◌, option_and_then}
 use Rattle.std.specs.Option.{option_map}
 use Rattle.std.specs.List.{starts_with}
 use Rattle.std.specs.Cmp.Lexicographic.{pointwise}
+use Rattle.uv_num.specs.declared.errno.Errno.{Errno}
+use Rattle.uv_num.specs.declared.request.Request.{Request}
+use Rattle.uv_schema.specs.Commands.{command_of}
+use Rattle.uv_script.specs.Built.{is_built}
+use Rattle.uv_script.specs.Bytes.{bytes_of}
 use Rattle.uv_script.specs.Lines.{text_of, is_plain_text}
 use Rattle.uv_script.specs.Words.{words_of, only_of}
 use Rattle.uv_script.specs.Numbers.{number_of}
@@ -11,7 +16,7 @@ use Rattle.uv_script.specs.Names.{is_name, Look}
 use Rattle.uv_script.specs.declared.form.Handle.{Handle}
 use Rattle.uv_script.specs.declared.form.Handle.TheVariants.{Number, Name}
 use Rattle.uv_script.specs.declared.form.Form.{Form}
-use Rattle.uv_script.specs.declared.form.Form.TheVariants.{Open, AllocPd, DeallocPd}
+use Rattle.uv_script.specs.declared.form.Form.TheVariants.{Open, AllocPd, DeallocPd, Raw}
 use Rattle.uv_script.specs.declared.reading.Verb.{Verb}
 use Rattle.uv_script.specs.declared.reading.Verb.TheVariants as verb
 use Rattle.uv_script.specs.declared.reading.Read.{Read}
@@ -72,11 +77,26 @@ abbrev pub says_dealloc_pd : ℕ → ℕ → Option Handle → Reading
 says_dealloc_pd client file None = Outside
 says_dealloc_pd client file (Some pd) = Says (DeallocPd client file pd)
 
+-- one word, which spells bytes
+abbrev pub bytes_operand : List (List ℕ) → Option (List ℕ)
+bytes_operand words = option_and_then bytes_of (only_of words)
+
+-- a command that is refused says its errno, and one that asks for a request says that request, if its line is built
+abbrev pub says_command : ℕ → ℕ → Result Request Errno → Reading
+says_command client file (Err errno) = Says (Raw client file (Err errno))
+says_command client file (Ok request) = if is_built request then Says (Raw client file (Ok request)) else Outside
+
+-- `raw HEX`
+abbrev pub says_raw : ℕ → ℕ → Option (List ℕ) → Reading
+says_raw client file None = Outside
+says_raw client file (Some bytes) = says_command client file (command_of bytes)
+
 -- what a verb says with the words behind it
 abbrev pub behind_verb : Look → Verb → ℕ → ℕ → List (List ℕ) → Reading
 behind_verb look verb.Open client file words = says_open client file (device_operand words)
 behind_verb look verb.AllocPd client file words = create look (AllocPd client file) words
 behind_verb look verb.DeallocPd client file words = says_dealloc_pd client file (handle_operand look words)
+behind_verb look verb.Raw client file words = says_raw client file (bytes_operand words)
 
 -- the word of each verb
 abbrev pub verb_of : List ℕ → Option Verb
@@ -84,7 +104,8 @@ verb_of word =
     if pointwise nat_eq word (codes "open") then Some verb.Open
     else (if pointwise nat_eq word (codes "alloc_pd") then Some verb.AllocPd
     else (if pointwise nat_eq word (codes "dealloc_pd") then Some verb.DeallocPd
-    else None))
+    else (if pointwise nat_eq word (codes "raw") then Some verb.Raw
+    else None)))
 
 abbrev pub with_verb : Look → ℕ → ℕ → List (List ℕ) → Option Verb → Reading
 with_verb look client file words None = Outside

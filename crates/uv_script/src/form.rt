@@ -1,6 +1,7 @@
 //! What the lines of a script say.
 
 use thiserror::Error;
+use uv_num::{Errno, Request};
 
 /// How a script is run.
 #[derive(Clone, Copy, Debug, PartialEq)]
@@ -22,11 +23,28 @@ pub enum Handle {
 #[derive(Clone, Copy, Debug, PartialEq)]
 pub enum Form {
     /// Opens a file on a device.
-    Open { client: u32, file: u32, device: u32 },
+    Open {
+        client: u32,
+        file: u32,
+        device: u32,
+    },
     /// Allocates a protection domain.
-    AllocPd { client: u32, file: u32 },
+    AllocPd {
+        client: u32,
+        file: u32,
+    },
     /// Frees a protection domain.
-    DeallocPd { client: u32, file: u32, pd: Handle },
+    DeallocPd {
+        client: u32,
+        file: u32,
+        pd: Handle,
+    },
+    /// Gives command bytes, which ask for this request or are refused with this errno.
+    Raw {
+        client: u32,
+        file: u32,
+        command: Result<Request, Errno>,
+    },
 }
 
 /// A line that says something.

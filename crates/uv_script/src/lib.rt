@@ -2,9 +2,12 @@
 //!
 //! `parse` is what the layers above use: it reads bytes to a `Script`, or names the first line that is outside
 //! the language. The grammar stands in `specs/` as definitions on bytes, lines and words; a line form is one
-//! case of `Verb` there and here.
+//! case of `Verb` there and here. Command bytes of a raw line are read by `uv_schema`'s `command`, and a line holds
+//! what they ask for.
 #![tactic(auto)]
 
+mod built;
+mod bytes;
 mod form;
 mod laws;
 mod names;

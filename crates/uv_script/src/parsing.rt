@@ -1,6 +1,6 @@
 //! Bytes as a script.
 
-ghost use Rattle.std.specs.Prelude.{◌≡◌, ◌++◌, OnOk};
+ghost use Rattle.std.specs.Prelude.{◌≡◌, ◌++◌, IfOk, OnOk};
 ghost use Rattle.uv_script.specs.Names.{FindsAlso};
 ghost use Rattle.uv_script.specs.Kept.{line_kept};
 ghost use Rattle.uv_script.specs.Reading.{seen, reading_of};
@@ -29,7 +29,9 @@ pub fn parse(alloc: Global, bytes: &[u8], mode: Mode) -> Result<Script, ScriptFa
     let mut number: u32 = 1;
     while !rest.is_empty() {
         let (line, behind) = first_line(rest);
-        let read = read_at(number, &names, line);
+        let Ok(read) = read_at(alloc, number, &names, line) else {
+            return Err(ScriptFault::NoMemory);
+        };
         if is_outside(read) {
             return Err(ScriptFault::At(number));
         }
@@ -45,13 +47,18 @@ pub fn parse(alloc: Global, bytes: &[u8], mode: Mode) -> Result<Script, ScriptFa
 }
 
 /// What a line of this number is. Lines over the limit are outside the language.
-fn read_at<'a>(number: u32, names: &Names<'_>, line: &'a [u8]) -> Read<'a>
-    ensures { seen result ≡ reading_at number (reading_of (line_kept names.now) line.now) }
+fn read_at<'a>(
+    alloc: Global,
+    number: u32,
+    names: &Names<'_>,
+    line: &'a [u8],
+) -> Result<Read<'a>, AllocError>
+    ensures { IfOk result (λ read. seen read ≡ reading_at number (reading_of (line_kept names.now) line.now)) }
 {
     if number as usize > SCRIPT_LINES {
-        return Read::Outside;
+        return Ok(Read::Outside);
     }
-    read_line(names, line)
+    read_line(alloc, names, line)
 }
 
 fn is_outside(read: Read<'_>) -> bool

@@ -1,18 +1,23 @@
 //! What a line says.
 
-ghost use Rattle.std.specs.Prelude.{◌≡◌, option_and_then};
+ghost use Rattle.std.specs.Prelude.{◌≡◌, IfOk, option_and_then};
 ghost use Rattle.std.specs.Option.{option_map};
 ghost use Rattle.uv_script.specs.Words.{words_of, only_of};
 ghost use Rattle.uv_script.specs.Kept.{line_kept};
 ghost use Rattle.uv_script.specs.Numbers.{number_of};
-ghost use Rattle.uv_script.specs.Reading.{seen, reading_of, is_remark, words_reading, behind_client, behind_file, verb_of, behind_verb, says_open, says_dealloc_pd, create, named, is_free, device_operand, handle_operand, handle_of, as_handle};
+ghost use Rattle.uv_script.specs.Reading.{seen, reading_of, is_remark, words_reading, behind_client, behind_file, verb_of, behind_verb, says_open, says_dealloc_pd, create, named, is_free, device_operand, handle_operand, handle_of, as_handle, bytes_operand, says_command, says_raw};
 
+use crate::built::is_built;
+use crate::bytes::bytes_in;
 use crate::names::{Names, is_name};
 use crate::numbers::number;
 use crate::places::{client, device, file};
 use crate::splits::{is_plain_text, text_of};
 use crate::words::{next_word, only_word};
 use crate::{Form, Handle};
+use std::alloc::{AllocError, Global};
+use uv_num::{Errno, List, Request};
+use uv_schema::command;
 
 /// What a line is.
 #[derive(Clone, Copy)]
@@ -33,20 +38,25 @@ pub(crate) enum Verb {
     Open,
     AllocPd,
     DeallocPd,
+    Raw,
 }
 
-/// What a line is, behind lines that declare these names.
-pub(crate) fn read_line<'a>(names: &Names<'_>, line: &'a [u8]) -> Read<'a>
-    ensures { seen result ≡ reading_of (line_kept names.now) line.now }
+/// What a line is, behind lines that declare these names. Only bytes take memory.
+pub(crate) fn read_line<'a>(
+    alloc: Global,
+    names: &Names<'_>,
+    line: &'a [u8],
+) -> Result<Read<'a>, AllocError>
+    ensures { IfOk result (λ read. seen read ≡ reading_of (line_kept names.now) line.now) }
 {
     let text = text_of(line);
     if !is_plain_text(text) {
-        return Read::Outside;
+        return Ok(Read::Outside);
     }
     if is_remark(text) {
-        return Read::Nothing;
+        return Ok(Read::Nothing);
     }
-    read_words(names, text)
+    read_words(alloc, names, text)
 }
 
 fn is_remark(text: &[u8]) -> bool
@@ -59,38 +69,49 @@ fn is_remark(text: &[u8]) -> bool
 }
 
 /// What words are: an actor, a file, a verb, and what the verb takes.
-fn read_words<'a>(names: &Names<'_>, text: &'a [u8]) -> Read<'a>
-    ensures { seen result ≡ words_reading (line_kept names.now) (words_of text.now) }
+fn read_words<'a>(alloc: Global, names: &Names<'_>, text: &'a [u8]) -> Result<Read<'a>, AllocError>
+    ensures { IfOk result (λ read. seen read ≡ words_reading (line_kept names.now) (words_of text.now)) }
 {
     match next_word(text) {
-        None => Read::Nothing,
+        None => Ok(Read::Nothing),
         Some((word, rest)) => match client(word) {
-            None => Read::Outside,
-            Some(client) => behind_client(names, client, rest),
+            None => Ok(Read::Outside),
+            Some(client) => behind_client(alloc, names, client, rest),
         },
     }
 }
 
-fn behind_client<'a>(names: &Names<'_>, client: u32, text: &'a [u8]) -> Read<'a>
-    ensures { seen result ≡ behind_client (line_kept names.now) client (words_of text.now) }
+fn behind_client<'a>(
+    alloc: Global,
+    names: &Names<'_>,
+    client: u32,
+    text: &'a [u8],
+) -> Result<Read<'a>, AllocError>
+    ensures { IfOk result (λ read. seen read ≡ behind_client (line_kept names.now) client (words_of text.now)) }
 {
     match next_word(text) {
-        None => Read::Outside,
+        None => Ok(Read::Outside),
         Some((word, rest)) => match file(word) {
-            None => Read::Outside,
-            Some(file) => behind_file(names, client, file, rest),
+            None => Ok(Read::Outside),
+            Some(file) => behind_file(alloc, names, client, file, rest),
         },
     }
 }
 
-fn behind_file<'a>(names: &Names<'_>, client: u32, file: u32, text: &'a [u8]) -> Read<'a>
-    ensures { seen result ≡ behind_file (line_kept names.now) client file (words_of text.now) }
+fn behind_file<'a>(
+    alloc: Global,
+    names: &Names<'_>,
+    client: u32,
+    file: u32,
+    text: &'a [u8],
+) -> Result<Read<'a>, AllocError>
+    ensures { IfOk result (λ read. seen read ≡ behind_file (line_kept names.now) client file (words_of text.now)) }
 {
     match next_word(text) {
-        None => Read::Outside,
+        None => Ok(Read::Outside),
         Some((word, rest)) => match verb_in(word) {
-            None => Read::Outside,
-            Some(verb) => behind_verb(names, verb, client, file, rest),
+            None => Ok(Read::Outside),
+            Some(verb) => behind_verb(alloc, names, verb, client, file, rest),
         },
     }
 }
@@ -105,6 +126,8 @@ fn verb_in(word: &[u8]) -> Option<Verb>
         Some(Verb::AllocPd)
     } else if word == b"dealloc_pd".as_slice() {
         Some(Verb::DeallocPd)
+    } else if word == b"raw".as_slice() {
+        Some(Verb::Raw)
     } else {
         None
     }
@@ -112,18 +135,20 @@ fn verb_in(word: &[u8]) -> Option<Verb>
 
 /// What a verb with these words behind it says.
 fn behind_verb<'a>(
+    alloc: Global,
     names: &Names<'_>,
     verb: Verb,
     client: u32,
     file: u32,
     text: &'a [u8],
-) -> Read<'a>
-    ensures { seen result ≡ behind_verb (line_kept names.now) verb client file (words_of text.now) }
+) -> Result<Read<'a>, AllocError>
+    ensures { IfOk result (λ read. seen read ≡ behind_verb (line_kept names.now) verb client file (words_of text.now)) }
 {
     match verb {
-        Verb::Open => open(client, file, text),
-        Verb::AllocPd => create(names, Form::AllocPd { client, file }, text),
-        Verb::DeallocPd => dealloc_pd(names, client, file, text),
+        Verb::Open => Ok(open(client, file, text)),
+        Verb::AllocPd => Ok(create(names, Form::AllocPd { client, file }, text)),
+        Verb::DeallocPd => Ok(dealloc_pd(names, client, file, text)),
+        Verb::Raw => raw(alloc, client, file, text),
     }
 }
 
@@ -146,6 +171,42 @@ fn dealloc_pd<'a>(names: &Names<'_>, client: u32, file: u32, text: &'a [u8]) -> 
     match handle_operand(names, text) {
         None => Read::Outside,
         Some(pd) => Read::Says(Form::DeallocPd { client, file, pd }),
+    }
+}
+
+/// Command bytes, which are read while the script is.
+fn raw(alloc: Global, client: u32, file: u32, text: &[u8]) -> Result<Read<'_>, AllocError>
+    ensures { IfOk result (λ read. seen read ≡ says_raw client file (bytes_operand (words_of text.now))) }
+{
+    match bytes_operand(alloc, text)? {
+        None => Ok(Read::Outside),
+        Some(bytes) => {
+            let command = command(alloc, bytes.as_slice())?;
+            Ok(says_command(client, file, command))
+        }
+    }
+}
+
+fn says_command<'a>(client: u32, file: u32, command: Result<Request, Errno>) -> Read<'a>
+    ensures { seen result ≡ says_command client file command }
+{
+    match command {
+        Err(errno) => Read::Says(Form::Raw {
+            client,
+            file,
+            command: Err(errno),
+        }),
+        Ok(request) => {
+            if is_built(request) {
+                Read::Says(Form::Raw {
+                    client,
+                    file,
+                    command: Ok(request),
+                })
+            } else {
+                Read::Outside
+            }
+        }
     }
 }
 
@@ -197,6 +258,15 @@ fn handle_operand(names: &Names<'_>, text: &[u8]) -> Option<Handle>
     ensures { result ≡ handle_operand (line_kept names.now) (words_of text.now) }
 {
     handle(names, only_word(text)?)
+}
+
+fn bytes_operand(alloc: Global, text: &[u8]) -> Result<Option<List<u8>>, AllocError>
+    ensures { IfOk result (λ bytes. bytes ≡ bytes_operand (words_of text.now)) }
+{
+    match only_word(text) {
+        None => Ok(None),
+        Some(word) => bytes_in(alloc, word),
+    }
 }
 
 /// A handle: `#` and a number, or a name that is declared.

@@ -4,7 +4,7 @@ use crate::numbers::number;
 use crate::{Form, Handle, Mode, Script, ScriptFault, parse};
 use std::alloc::{AllocError, Global};
 use std::test::Fail;
-use uv_num::SCRIPT_LINES;
+use uv_num::{Errno, Request, SCRIPT_BYTES, SCRIPT_LINES};
 
 /// The number of the line that a fault names, or 0.
 fn fault(alloc: Global, bytes: &[u8]) -> u32 {
@@ -202,4 +202,95 @@ fn numbers_are_below_two_to_the_64(rt: HostRuntime) {
     for (digits, value) in rows.iter() {
         assert_eq!(rt; number(digits.as_bytes()), *value, "of {digits}");
     }
+}
+
+#[test]
+fn a_script_has_so_many_bytes(rt: HostRuntime) -> Result<(), Fail> {
+    let line = "c1 f0 dealloc_pd #0x0000000000000001                           \n";
+    assert_eq!(rt; line.len(), 64);
+    let most = repeated(rt.alloc(), line, 16_384)?;
+    assert_eq!(rt; most.len(), SCRIPT_BYTES);
+    assert_eq!(rt; fault(rt.alloc(), &most), 0);
+    Ok(())
+}
+
+/// What the command of the only line is answered with, if that line has one.
+fn raw(alloc: Global, text: &str) -> Result<Option<Result<Request, Errno>>, ScriptFault> {
+    let script = script(alloc, text)?;
+    if script.len() != 1 {
+        return Ok(None);
+    }
+    match script.line(0).form {
+        Form::Raw { command, .. } => Ok(Some(command)),
+        Form::Open { .. } | Form::AllocPd { .. } | Form::DeallocPd { .. } => Ok(None),
+    }
+}
+
+#[test]
+fn raw_lines_say_requests_and_errnos(rt: HostRuntime) -> Result<(), Fail> {
+    let domain = Ok(Request::DeallocPd { pd: 0x0030_20ab });
+    let rows = [
+        // Allocates a domain.
+        (
+            "c3 f4 raw 180001000100000000000000000000000000000000000000",
+            Ok(Request::AllocPd),
+        ),
+        // Destroys domain 0x3020ab, in either case.
+        (
+            "c3 f4 raw 2800010002000100000000000000000000000000000000000100080001000000ab20300000000000",
+            domain,
+        ),
+        (
+            "c3 f4 raw 2800010002000100000000000000000000000000000000000100080001000000Ab20300000000000",
+            domain,
+        ),
+        // No command: too short.
+        ("c3 f4 raw 00", Err(Errno::Inval)),
+        ("c3 f4 raw fF", Err(Errno::Inval)),
+        // A completion queue of depth 0: out of its range, though no line makes one.
+        (
+            "c3 f4 raw 28000300010001000000000000000000000000000000000001000800010000000000000000000000",
+            Err(Errno::Inval),
+        ),
+        // Object 9.
+        (
+            "c3 f4 raw 180009000100000000000000000000000000000000000000",
+            Err(Errno::ProtoNoSupport),
+        ),
+    ];
+    for (text, command) in rows.iter() {
+        assert_eq!(rt; raw(rt.alloc(), text)?, Some(*command), "of {text}");
+    }
+    Ok(())
+}
+
+#[test]
+fn raw_lines_outside_the_language(rt: HostRuntime) {
+    let rows = [
+        "c1 f0 raw",
+        "c1 f0 raw 0",
+        "c1 f0 raw 000",
+        "c1 f0 raw 0g",
+        "c1 f0 raw 0x00",
+        "c1 f0 raw 00 00",
+        "c1 f0 raw 00 as p",
+        "c1 f0 raw #00",
+        // Requests whose lines aren't built: a channel, an event, a completion queue of depth 1.
+        "c1 f0 raw 180002000100000000000000000000000000000000000000",
+        "c1 f0 raw 180010000100000000000000000000000000000000000000",
+        "c1 f0 raw 28000300010001000000000000000000000000000000000001000800010000000100000000000000",
+    ];
+    for text in rows.iter() {
+        assert_eq!(rt; fault(rt.alloc(), text.as_bytes()), 1, "of {text}");
+    }
+}
+
+#[test]
+fn bytes_have_so_many_digits(rt: HostRuntime) -> Result<(), Fail> {
+    for (digits, number) in [(8_192, 0), (8_193, 1), (8_194, 1)] {
+        let mut text = Vec::from_slice(rt.alloc(), b"c1 f0 raw ")?;
+        text.extend_from_slice(&repeated(rt.alloc(), "a", digits)?)?;
+        assert_eq!(rt; fault(rt.alloc(), &text), number, "of {digits}");
+    }
+    Ok(())
 }
