@@ -11,3 +11,5 @@ pub use Rattle.uv_machine.specs.Plans
 pub use Rattle.uv_machine.specs.Reached
 pub use Rattle.uv_machine.specs.States
 pub use Rattle.uv_machine.specs.Steps
+pub mod Gone
+pub mod Standing

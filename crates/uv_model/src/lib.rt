@@ -1,7 +1,18 @@
-//! The object-graph machine under the name that the layers above know: what judges and retells histories will stand
-//! here, and passes on the words of `uv_machine`, its definitions among them, to whoever stands on this crate.
+//! The object-graph machine under the name that the layers above know, and what its histories tell.
+//!
+//! `standing` tells what stands at a place of a history, `gone_after` what one teardown released, and `gone_at_end` what
+//! went when the end of a script closed the files. The words and definitions of `uv_machine` are passed on.
 #![tactic(auto)]
 
+mod gone;
+mod left;
+mod replays;
+#[cfg(test)]
+mod tests;
+
+pub use gone::{gone_after, gone_at_end};
+pub use left::{Left, left_in};
+pub use replays::standing;
 pub use uv_machine::{
     ACTOR_PLACES, Answer, Cell, Done, Entry, File, FilePhase, InFlight, Object, PLAN_STEPS, Phase,
     Pool, State, Told, Word, first_bad,
