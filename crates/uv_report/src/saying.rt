@@ -1,0 +1,99 @@
+//! The texts of a report, as plain data.
+
+use uv_model::Left;
+use uv_num::{Errno, QpState};
+
+/// The word of a step of a call.
+#[derive(Clone, Copy, Debug, PartialEq, Eq)]
+pub enum StepWord {
+    /// A handle's number is set aside.
+    Reserve,
+    /// An object that the call names is looked up and held.
+    Look,
+    /// The object is made.
+    Make,
+    /// The object is published.
+    Commit,
+    /// What the call is for is done to an object that stays.
+    Act,
+    /// The object to be destroyed is locked.
+    Lock,
+    /// It is seen whether another object uses it.
+    Check,
+    /// The object leaves.
+    Finish,
+    /// A number that was set aside goes back.
+    Abort,
+    /// An object that was held is let go.
+    Free,
+    /// The call ends.
+    Exit,
+}
+
+/// Who tears a file down.
+#[derive(Clone, Copy, Debug, PartialEq, Eq)]
+pub enum Tearer {
+    /// A client, 1 to 8.
+    Client(u32),
+    /// The driver, as a device is unplugged.
+    Driver,
+}
+
+/// What a line of a report tells.
+#[derive(Clone, Copy, Debug, PartialEq)]
+pub enum Saying {
+    /// It is done, and there is nothing more to tell.
+    Ok,
+    /// It made the object of this handle.
+    Handle(u32),
+    /// It made the queue pair of this handle and number.
+    Pair {
+        /// The handle.
+        handle: u32,
+        /// The queue pair's number.
+        number: u32,
+    },
+    /// It made the region or window of this handle and key.
+    Key {
+        /// The handle.
+        handle: u32,
+        /// The 32-bit key.
+        key: u32,
+    },
+    /// The queue pair of this number is in this state.
+    State {
+        /// Its state.
+        state: QpState,
+        /// Its number.
+        number: u32,
+    },
+    /// The file's device went (`IB_EVENT_DEVICE_FATAL`).
+    DeviceFatal,
+    /// It was refused.
+    Refused(Errno),
+    /// A call, a close or an unplug began, and goes on event by event.
+    Began,
+    /// A call in flight made this step, which may have been refused.
+    Step {
+        /// The step's word.
+        word: StepWord,
+        /// Its refusal, if it was refused.
+        refusal: Option<Errno>,
+    },
+    /// The teardown of this file began.
+    Tear(u32),
+    /// A teardown took this object out of use.
+    Kill(Left),
+    /// A teardown released this object.
+    Gone(Left),
+    /// The teardown of this file by the driver ended.
+    Dissociated(u32),
+    /// The teardown of this file by a close ended.
+    Closed(u32),
+    /// So many calls of the file are in flight, and the teardown waits.
+    NotYet(u32),
+    /// The file is being torn by this one.
+    TornBy(Tearer),
+    /// Nothing is in flight.
+    Idle,
+}

@@ -1,0 +1,139 @@
+//! The text of what a line of a report tells.
+
+ghost use Rattle.std.specs.Prelude.{◌≡◌, Some};
+ghost use Rattle.uv_report.specs.Report.{state_name, step_name};
+
+use crate::{Saying, StepWord, Tearer};
+use std::fmt;
+use uv_model::Left;
+use uv_num::{Errno, QpState};
+
+impl StepWord {
+    /// The word that reports print.
+    pub fn name(self) -> &'static str
+        ensures { result.now ≡ step_name self }
+    {
+        match self {
+            StepWord::Reserve => "reserve",
+            StepWord::Look => "look",
+            StepWord::Make => "make",
+            StepWord::Commit => "commit",
+            StepWord::Act => "act",
+            StepWord::Lock => "lock",
+            StepWord::Check => "check",
+            StepWord::Finish => "finish",
+            StepWord::Abort => "abort",
+            StepWord::Free => "free",
+            StepWord::Exit => "exit",
+        }
+    }
+}
+
+/// The name of a queue pair's state, as `enum ib_qp_state` has it (`rdma/ib_verbs.h`) without its front `IB_QPS_`.
+fn state_name(state: QpState) -> &'static str
+    ensures { result.now ≡ state_name state }
+{
+    match state {
+        QpState::Reset => "RESET",
+        QpState::Init => "INIT",
+        QpState::Rtr => "RTR",
+        QpState::Rts => "RTS",
+        QpState::Err => "ERR",
+    }
+}
+
+impl fmt::Display for Tearer {
+    ghost use Rattle.uv_report.specs.Report.{tearer_text};
+
+    ghost output = { λ tearer. Some (tearer_text tearer) };
+
+    fn fmt<W: fmt::Write>(&self, f: &mut fmt::Formatter<W>) -> fmt::Result {
+        match *self {
+            Tearer::Client(client) => write!(f, "c{client}"),
+            Tearer::Driver => f.write_str("drv"),
+        }
+    }
+}
+
+/// A key, in eight small hexadecimal digits.
+#[derive(Drop)]
+struct Key(u32);
+
+impl fmt::Display for Key {
+    ghost use Rattle.uv_report.specs.Report.{key_text};
+
+    ghost output = { λ key. Some (key_text key.0) };
+
+    #[tactic(auto, using(crate::proofs::Keys::padded_eight))]
+    fn fmt<W: fmt::Write>(&self, f: &mut fmt::Formatter<W>) -> fmt::Result {
+        write!(f, "0x{:08x}", self.0)
+    }
+}
+
+/// An object, by its file, its kind and its handle.
+#[derive(Drop)]
+pub struct Named(pub Left);
+
+impl fmt::Display for Named {
+    ghost use Rattle.uv_report.specs.Report.{object_text};
+
+    ghost output = { λ named. Some (object_text named.0) };
+
+    fn fmt<W: fmt::Write>(&self, f: &mut fmt::Formatter<W>) -> fmt::Result {
+        write!(
+            f,
+            "f{} {} {}",
+            self.0.file,
+            self.0.kind.name(),
+            self.0.handle
+        )
+    }
+}
+
+/// What stands behind a step: nothing, or its errno.
+#[derive(Drop)]
+struct Refusal(Option<Errno>);
+
+impl fmt::Display for Refusal {
+    ghost use Rattle.uv_report.specs.Report.{refusal_text};
+
+    ghost output = { λ refusal. Some (refusal_text refusal.0) };
+
+    fn fmt<W: fmt::Write>(&self, f: &mut fmt::Formatter<W>) -> fmt::Result {
+        match self.0 {
+            Some(errno) => write!(f, " {}", errno.name()),
+            None => Ok(()),
+        }
+    }
+}
+
+impl fmt::Display for Saying {
+    ghost use Rattle.uv_report.specs.Report.{saying_text};
+
+    ghost output = { λ saying. Some (saying_text saying) };
+
+    fn fmt<W: fmt::Write>(&self, f: &mut fmt::Formatter<W>) -> fmt::Result {
+        match *self {
+            Saying::Ok => f.write_str("ok"),
+            Saying::Handle(handle) => write!(f, "ok {handle}"),
+            Saying::Pair { handle, number } => write!(f, "ok {handle} qpn {number}"),
+            Saying::Key { handle, key } => write!(f, "ok {handle} key {}", Key(key)),
+            Saying::State { state, number } => write!(f, "ok {} qpn {number}", state_name(state)),
+            Saying::DeviceFatal => f.write_str("ok DEVICE_FATAL"),
+            Saying::Refused(errno) => f.write_str(errno.name()),
+            Saying::Began => f.write_str("began"),
+            Saying::Step { word, refusal } => write!(f, "{}{}", word.name(), Refusal(refusal)),
+            Saying::Tear(file) => write!(f, "tear f{file}"),
+            Saying::Kill(x) => write!(f, "kill {}", Named(x)),
+            Saying::Gone(x) => write!(f, "gone {}", Named(x)),
+            Saying::Dissociated(file) => write!(f, "dissociated f{file}"),
+            Saying::Closed(file) => write!(f, "closed f{file}"),
+            Saying::NotYet(calls) => write!(f, "notyet {calls}"),
+            Saying::TornBy(tearer) => write!(f, "notyet {tearer}"),
+            Saying::Idle => f.write_str("none"),
+        }
+    }
+}
+
+#[cfg(test)]
+mod tests;
