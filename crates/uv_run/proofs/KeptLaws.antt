@@ -1,14 +1,13 @@
 -- The machine with its stored history, entry by entry.
-use Rattle.std.proofs.Common.{◌≡◌, ℕ, ◌+◌, ◌-◌, ◌≤◌, ◌<◌, List, [], ◌∷◌, ◌++◌, true, refl, sym, ap, subst, ◌∙◌, arith, length}
-use Rattle.uv_num.specs.declared.limits.TheConstants.{MOST_OBJECTS}
+use Rattle.std.proofs.Common.{◌≡◌, ℕ, ◌+◌, ◌-◌, ◌≤◌, ◌<◌, List, [], ◌∷◌, ◌++◌, refl, sym, ap, subst, ◌∙◌, arith}
 use Rattle.uv_machine.specs.declared.entry.Entry.{Entry}
 use Rattle.uv_machine.specs.declared.state.State.{State}
 use Rattle.uv_machine.specs.States.{start}
 use Rattle.uv_machine.specs.Cells.{full_pool}
 use Rattle.uv_machine.specs.Laws.{HasRoom}
-use Rattle.uv_machine.specs.Histories.{Allowed, after, IsLegal, state_of}
+use Rattle.uv_machine.specs.Histories.{Allowed, after, state_of}
 use Rattle.uv_machine.specs.Accounts.{owed, costs}
-use Rattle.uv_run.specs.Kept.{Kept, IsKept}
+use Rattle.uv_run.specs.Kept.{IsKept}
 use Rattle.uv_run.proofs.MachineLaws.{state_goes_on, legal_goes_on, make_has_room, owed_covers}
 
 -- what an entry owes is covered, seen from the state beside the history

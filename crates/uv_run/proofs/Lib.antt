@@ -1,14 +1,12 @@
 pub mod Answerings
 pub mod Beginnings
 pub mod Endings
-pub mod FirstLines
 pub mod KeptLaws
 pub mod MachineLaws
 pub mod NextSteps
 pub mod Outcomes
 pub mod Playings
 pub mod Progress
+pub mod Refusals
 pub mod Snocs
-pub mod Spellings
-pub mod Values
 pub mod Ways

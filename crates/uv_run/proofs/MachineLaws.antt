@@ -1,12 +1,13 @@
 -- The machine's laws that the run stands on.
 use Rattle.uv_machine.specs.States.{start}
-use Rattle.uv_machine.specs.Laws.{StateGoesOn, LegalGoesOn, StepsRunOut, CallsStandApart, MakeHasRoom, OwedCovers, SweepBegins, SweepKills, SweepReleases, SweepGoesOn, SweepEnds, SweepShows, OpenIsOpen, PhasesStandApart}
+use Rattle.uv_machine.specs.Laws.{StateGoesOn, LegalGoesOn, StepsRunOut, CallsStandApart, MakeHasRoom, OwedCovers, SweepBegins, SweepKills, SweepReleases, SweepGoesOn, SweepEnds, SweepShows, OpenIsOpen, PhasesStandApart, FilesStandApart}
 use Rattle.uv_machine.proofs.GoingOn.{state_from-snoc, IsLegalFrom-snoc}
 use Rattle.uv_machine.proofs.OwnCall.{steps_ahead-step}
 use Rattle.uv_machine.proofs.Apart.{call_of-after}
 use Rattle.uv_machine.proofs.Numbers.{makes_with_room}
 use Rattle.uv_machine.proofs.Owing.{owed_after}
 use Rattle.uv_machine.proofs.Phases.{phase_of-opened, phase_of-after}
+use Rattle.uv_machine.proofs.FilesApart.{phase_of-apart}
 use Rattle.uv_machine.proofs.Sweeping.{IsSwept-tear, may_kill-swept, may_go-killed, IsSwept-turn, may_close-swept, object_with-killed}
 
 pub state_goes_on : StateGoesOn
@@ -32,6 +33,9 @@ open_is_open = phase_of-opened
 
 pub phases_stand_apart : PhasesStandApart
 phases_stand_apart = phase_of-after
+
+pub files_stand_apart : FilesStandApart
+files_stand_apart = phase_of-apart
 
 pub sweep_begins : SweepBegins
 sweep_begins = IsSwept-tear

@@ -1,10 +1,10 @@
 -- The next step of a call is allowed, and what it leaves of the call.
-use Rattle.std.proofs.Common.{◌≡◌, ℕ, Bool, true, false, Option, None, Some, is_none, refl, sym, ap, subst, ◌∙◌, if◌then◌else◌, slice_get}
+use Rattle.std.proofs.Common.{◌≡◌, ℕ, Bool, true, false, Option, None, Some, is_none, refl, ap, subst, ◌∙◌, if◌then◌else◌, slice_get}
 use Rattle.uv_num.specs.declared.errno.Errno.{Errno}
 use Rattle.uv_num.specs.declared.qp.QpState.{QpState}
 use Rattle.uv_num.specs.declared.kind.Kind.{Kind}
 use Rattle.uv_num.specs.declared.request.Role.{Role}
-use Rattle.uv_num.specs.declared.request.Role.TheVariants.{Creates, Destroys}
+use Rattle.uv_num.specs.declared.request.Role.TheVariants.{Creates, Destroys, Acts}
 use Rattle.uv_num.specs.Request.{role_of}
 use Rattle.uv_machine.specs.declared.entry.Word.{Word}
 use Rattle.uv_machine.specs.declared.entry.Word.TheVariants.{Reserve, Make, Commit, Lock, Check, Finish, Abort, Exit}
@@ -19,7 +19,7 @@ use Rattle.uv_machine.specs.declared.told.Told.{Told}
 use Rattle.uv_machine.specs.Objects.{is_husk}
 use Rattle.uv_machine.specs.States.{call_of, object_with, the_call, home_cell}
 use Rattle.uv_machine.specs.Plans.{next_word, own_object}
-use Rattle.uv_machine.specs.Steps.{next_of, next_from, step_of, done_as, step_answer, fine_answer, found_at, kept_of, told}
+use Rattle.uv_machine.specs.Steps.{next_of, next_from, step_of, done_as, step_answer, found_at, kept_of, told}
 use Rattle.uv_machine.specs.Effects.{after_step, refusal_in, with_call, stepped, unless_refused, make, make_at, with_object, without_object, buried_if_doomed}
 use Rattle.uv_machine.specs.Histories.{kept_in, IsNext}
 use Rattle.uv_machine.proofs.OwnCall.{call_of-with_call, call_of-left}
@@ -108,6 +108,7 @@ module _ (m : State) (c : ℕ) (call : InFlight) (here : call_of m c ≡ Some ca
   stays_making : (role : Role) → is_none (call_of (make m c call role) c) ≡ false
   stays_making (Creates kind) = stays_made kind (home_cell m kind)
   stays_making (Destroys asked) = stays_here
+  stays_making (Acts act) = stays_here
 
   slot_stepped : (w : Word) (o : ℕ) (r : Option Errno) → SlotAfter w (call_of (stepped m c call w o r) c)
   slot_stepped Reserve o r = stays_unless r _ (stays m _ here)

@@ -4,7 +4,7 @@ use Rattle.std.specs.Io.KnownBytes.{Consumes, IsAtEnd}
 use Rattle.uv_num.specs.declared.limits.TheConstants.{SCRIPT_BYTES}
 use Rattle.uv_io.specs.Faults.{Rose}
 use Rattle.uv_io.specs.Whole.{ReadsCount}
-use Rattle.uv_run.specs.Script.{script_of}
+use Rattle.uv_script.specs.Script.{script_of}
 use Rattle.uv_run.specs.Outcome.{RefusesScript, IsScriptLeft, IsStepsStatus, IsRunOrNoMemory}
 
 -- bytes that were read to the end are all that was left

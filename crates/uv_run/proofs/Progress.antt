@@ -1,14 +1,13 @@
 -- How far the lines of a script have been played.
-use Rattle.std.proofs.Common.{◌≡◌, ℕ, ◌+◌, ◌≤◌, List, [], length, take}
-use Rattle.uv_run.specs.declared.said.Line.{Line}
-use Rattle.uv_run.specs.declared.said.Said.{Said}
+use Rattle.std.proofs.Common.{◌+◌, ◌≤◌, ℕ, List, [], length, take}
+use Rattle.uv_script.specs.declared.form.Line.{Line}
+use Rattle.uv_report.specs.declared.record.Said.{Said}
 use Rattle.uv_run.specs.Kept.{Kept}
 use Rattle.uv_run.specs.Playing.{PlaysAll}
 use Rattle.uv_run.specs.Between.{IsBetween}
 
 -- so many lines are played, and there is room for a refused entry of each line that is left
-pub record IsPlayed (lines : List Line) (count : ℕ) (machine : Kept) (replies : List Said) (number : ℕ) : Type 0 where
-  pub plays : PlaysAll [] 1 (take count lines) machine.history replies
+pub record IsPlayed (lines : List Line) (count : ℕ) (machine : Kept) (replies : List Said) : Type 0 where
+  pub plays : PlaysAll [] [] (take count lines) machine.history replies
   pub between : IsBetween machine.history
   pub room : length lines ≤ machine.spare + count
-  pub next : number ≡ count + 1

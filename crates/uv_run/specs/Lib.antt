@@ -1,10 +1,9 @@
+pub mod Asking
 pub mod Between
 pub mod Ended
+pub mod Handles
 pub mod Kept
-pub mod Numbers
 pub mod Outcome
 pub mod Playing
-pub mod Report
-pub mod Script
-pub mod Spelling
+pub mod Texts
 pub mod Words

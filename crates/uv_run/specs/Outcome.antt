@@ -4,21 +4,18 @@ use Rattle.std.specs.Io.KnownBytes.{Appends}
 use Rattle.uv_num.specs.declared.limits.TheConstants.{SCRIPT_BYTES}
 use Rattle.uv_io.specs.Faults.{Rose}
 use Rattle.uv_io.specs.Whole.{ReadsWhole, ReadsPrefix, ReadsCount, WritesPrefix}
-use Rattle.uv_run.specs.declared.said.Line.{Line}
-use Rattle.uv_run.specs.declared.outcome.Record.{Record}
-use Rattle.uv_run.specs.Script.{script_of}
-use Rattle.uv_run.specs.Report.{report_text, fault_line, too_long_line}
-use Rattle.uv_run.specs.Playing.{FollowsScript, gone_of}
+use Rattle.uv_script.specs.declared.form.Line.{Line}
+use Rattle.uv_script.specs.Script.{script_of}
+use Rattle.uv_report.specs.declared.record.Record.{Record}
+use Rattle.uv_report.specs.Report.{report_of}
+use Rattle.uv_run.specs.Texts.{fault_line, too_long_line}
+use Rattle.uv_run.specs.Playing.{FollowsScript}
 
 -- nothing is told
 pub record IsEmptyRecord (told : Record) : Type 0 where
   pub history : told.history ≡ []
   pub replies : told.replies ≡ []
   pub left : told.left ≡ []
-
--- the report of a record
-abbrev pub report_of : Record → List ℕ
-report_of told = report_text told.replies (length told.left) (gone_of told.history)
 
 -- a fault of the sink cut a text short: a prefix of it was written
 pub record IsCutShort (old new : Option (List ℕ)) (before now : ℕ) (text : List ℕ) : Type 0 where
@@ -41,13 +38,13 @@ pub record RunsScript (old new : Option (List ℕ)) (told : Record) : Type 0 whe
   pub whole : ReadsWhole old new bytes SCRIPT_BYTES
   pub runs : RunsBytes bytes told
 
--- the first line of bytes that is outside the grammar, if there is one, is told
+-- the first line of bytes that is outside the language, if there is one, is told
 pub record TellsFault (bytes : List ℕ) (old new : Option (List ℕ)) (before now : ℕ) : Type 0 where
   pub line : ℕ
   pub script : script_of bytes ≡ Err line
   pub text : WritesUnlessFault old new before now (fault_line line)
 
--- all that was left was read, it is no script, and its first line that is outside the grammar is told
+-- all that was left was read, it is no script, and its first line that is outside the language is told
 pub record RefusesScript (old new written rewritten : Option (List ℕ)) (before now : ℕ) : Type 0 where
   pub bytes : List ℕ
   pub whole : ReadsWhole old new bytes SCRIPT_BYTES

@@ -1,31 +1,36 @@
 -- How a script is played on the machine: line by line, each call to its end, and at last the files are closed.
-use Rattle.std.specs.Prelude.{ℕ, zero, suc, ◌≡◌, ◌+◌, ◌++◌, Bool, true, false, not, ◌||◌, ◌&&◌, ◌==◌, List, [], ◌∷◌, Option, None, Some, Result, Ok, Err, length, filter, map, option_map, option_to_list, if◌then◌else◌}
+use Rattle.std.specs.Prelude.{ℕ, zero, suc, ◌≡◌, ◌≢◌, ◌++◌, Bool, true, false, ◌==◌, List, [], ◌∷◌, Option, None, Some, Result, Ok, Err, length, if◌then◌else◌, find, reverse}
+use Rattle.std.specs.List.{range_with_len}
 use Rattle.uv_num.specs.declared.errno.Errno.{Errno}
 use Rattle.uv_num.specs.declared.errno.Errno.TheVariants.{NoMem}
 use Rattle.std.specs.declared.alloc.AllocError.{AllocError}
 use Rattle.uv_num.specs.declared.request.Request.{Request}
 use Rattle.uv_num.specs.declared.request.Request.TheVariants as request
-use Rattle.uv_num.specs.declared.limits.TheConstants.{ENDER}
+use Rattle.uv_num.specs.declared.limits.TheConstants.{ENDER, FILES, NONE}
 use Rattle.uv_machine.specs.declared.entry.Entry.{Entry}
 use Rattle.uv_machine.specs.declared.entry.Entry.TheVariants as entry
 use Rattle.uv_machine.specs.declared.entry.Done.{Done}
 use Rattle.uv_machine.specs.declared.entry.Answer.{Answer}
 use Rattle.uv_machine.specs.declared.entry.Answer.TheVariants as answer
 use Rattle.uv_machine.specs.declared.object.Object.{Object}
-use Rattle.uv_machine.specs.declared.state.State.{State}
-use Rattle.uv_machine.specs.Objects.{is_husk}
-use Rattle.uv_machine.specs.States.{start, call_of, object_with, phase_of, newest_free, is_callable}
+use Rattle.uv_machine.specs.States.{call_of, phase_of, newest_free, is_callable}
 use Rattle.uv_machine.specs.Steps.{next_of}
 use Rattle.uv_machine.specs.Effects.{refusal_in}
 use Rattle.uv_machine.specs.Outside.{MayAnswer, open_refusal, enter_refusal}
-use Rattle.uv_machine.specs.Histories.{after, IsLegal, state_of}
+use Rattle.uv_machine.specs.Histories.{IsLegal, state_of}
 use Rattle.uv_machine.specs.Calls.{Item, Opening, Calling, calls_of}
-use Rattle.uv_run.specs.declared.said.Line.{Line}
-use Rattle.uv_run.specs.declared.said.Line.TheVariants as line
-use Rattle.uv_run.specs.declared.said.Saying.{Saying}
-use Rattle.uv_run.specs.declared.said.Saying.TheVariants as saying
-use Rattle.uv_run.specs.declared.said.Said.{Said}
-use Rattle.uv_run.specs.declared.said.Left.{Left}
+use Rattle.uv_model.specs.declared.left.Left.{Left}
+use Rattle.uv_model.specs.Standing.{all_left}
+use Rattle.uv_report.specs.declared.record.Said.{Said}
+use Rattle.uv_report.specs.declared.saying.Saying.{Saying}
+use Rattle.uv_report.specs.declared.saying.Saying.TheVariants as saying
+use Rattle.uv_script.specs.declared.form.Handle.{Handle}
+use Rattle.uv_script.specs.declared.form.Handle.TheVariants.{Number, Name}
+use Rattle.uv_script.specs.declared.form.Form.{Form}
+use Rattle.uv_script.specs.declared.form.Form.TheVariants as form
+use Rattle.uv_script.specs.declared.form.Line.{Line}
+use Rattle.uv_run.specs.declared.asked.Asked.{Asked}
+use Rattle.uv_run.specs.declared.asked.Asked.TheVariants.{Opens, Calls, Refused}
 
 -- A call to its end.
 
@@ -52,6 +57,63 @@ pub record RunsToEnd (h : List Entry) (c : ℕ) (h' : List Entry) : Type 0 where
   pub steps : Steps h c h'
   pub ended : call_of (state_of h') c ≡ None
 
+-- What a line asks for.
+
+-- the client of a line
+abbrev pub client_of : Form → ℕ
+client_of (form.Open client file device) = client
+client_of (form.AllocPd client file) = client
+client_of (form.DeallocPd client file pd) = client
+client_of (form.Raw client file command) = client
+
+abbrev pub is_on_line : ℕ → Said → Bool
+is_on_line n said = said.line == n
+
+-- the handle that a text tells, or none
+abbrev pub handle_told : Saying → ℕ
+handle_told saying.Ok = NONE
+handle_told (saying.Handle handle) = handle
+handle_told (saying.Pair handle number) = handle
+handle_told (saying.Key handle key) = handle
+handle_told (saying.State state number) = NONE
+handle_told saying.DeviceFatal = NONE
+handle_told (saying.Refused errno) = NONE
+handle_told saying.Began = NONE
+handle_told (saying.Step word refusal) = NONE
+handle_told (saying.Tear file) = NONE
+handle_told (saying.Kill x) = NONE
+handle_told (saying.Gone x) = NONE
+handle_told (saying.Dissociated file) = NONE
+handle_told (saying.Closed file) = NONE
+handle_told (saying.NotYet calls) = NONE
+handle_told (saying.TornBy tearer) = NONE
+handle_told saying.Idle = NONE
+
+abbrev pub handle_in : Option Said → ℕ
+handle_in None = NONE
+handle_in (Some said) = handle_told said.text
+
+-- the handle that the create on a line was given, as the last of its texts tells it: none where it was refused
+abbrev pub given : List Said → ℕ → ℕ
+given told n = handle_in (find (is_on_line n) (reverse told))
+
+-- the handle that a word stands for, behind these texts
+abbrev pub handle_of : List Said → Handle → ℕ
+handle_of told (Number handle) = handle
+handle_of told (Name n) = given told n
+
+-- what command bytes ask for: a request, or nothing where they are refused
+abbrev pub asked_by : ℕ → Result Request Errno → Asked
+asked_by file (Ok request) = Calls file request
+asked_by file (Err errno) = Refused errno
+
+-- what a line asks of the machine, behind these texts
+abbrev pub asked_of : List Said → Form → Asked
+asked_of told (form.Open client file device) = Opens file device
+asked_of told (form.AllocPd client file) = Calls file request.AllocPd
+asked_of told (form.DeallocPd client file pd) = Calls file (request.DeallocPd (handle_of told pd))
+asked_of told (form.Raw client file command) = asked_by file command
+
 -- A line.
 
 -- what a reply tells of an answer
@@ -66,69 +128,69 @@ abbrev pub taken_answer : Result (Unit {0}) AllocError → Answer
 taken_answer (Ok u) = answer.Ok
 taken_answer (Err e) = answer.Refused NoMem
 
--- client 1 opens file 0 on device 0; want of memory aside, the answer is the machine's
-pub record Opens (h : List Entry) (h' : List Entry) (a : Answer) : Type 0 where
-  pub may : MayAnswer (open_refusal (state_of h) 0 0) a
-  pub history : h' ≡ h ++ entry.Open 1 0 0 a ∷ []
+-- a client opens a file on a device; want of memory aside, the answer is the machine's
+pub record OpensFile (h : List Entry) (c f d : ℕ) (h' : List Entry) (a : Answer) : Type 0 where
+  pub may : MayAnswer (open_refusal (state_of h) f d) a
+  pub history : h' ≡ h ++ entry.Open c f d a ∷ []
 
 -- behind an enter: a refused one ends the call, an accepted one is run to its end
-abbrev pub GoesOn : List Entry → Option Errno → List Entry → Type 0
-GoesOn h None h' = RunsToEnd h 1 h'
-GoesOn h (Some e) h' = h' ≡ h
+abbrev pub GoesOn : List Entry → ℕ → Option Errno → List Entry → Type 0
+GoesOn h c None h' = RunsToEnd h c h'
+GoesOn h c (Some e) h' = h' ≡ h
 
--- client 1 makes a call on file 0; want of memory at its enter aside, each answer is the machine's
-pub record Calls (h : List Entry) (request : Request) (h' : List Entry) (a : Answer) : Type 0 where
+-- a client makes a call on a file; want of memory at its enter aside, each answer is the machine's
+pub record MakesCall (h : List Entry) (c f : ℕ) (request : Request) (h' : List Entry) (a : Answer) : Type 0 where
   pub entered : Answer
-  pub may : MayAnswer (enter_refusal (state_of h) 0 request) entered
-  pub goes : GoesOn (h ++ entry.Enter 1 0 request entered ∷ []) (refusal_in entered) h'
+  pub may : MayAnswer (enter_refusal (state_of h) f request) entered
+  pub goes : GoesOn (h ++ entry.Enter c f request entered ∷ []) c (refusal_in entered) h'
 
--- the call that a line makes, with its answer
-abbrev pub item_of : Line → Answer → Item
-item_of line.Open a = Opening 0 0 a
-item_of line.AllocPd a = Calling 0 request.AllocPd (Some a)
-item_of (line.DeallocPd pd) a = Calling 0 (request.DeallocPd pd) (Some a)
+-- what is refused before the machine is asked makes no entry
+pub record IsRefused (h : List Entry) (errno : Errno) (h' : List Entry) (a : Answer) : Type 0 where
+  pub history : h' ≡ h
+  pub refusal : a ≡ answer.Refused errno
 
--- what a line makes of the history, and the answer of its call
-abbrev pub Makes : List Entry → Line → List Entry → Answer → Type 0
-Makes h line.Open h' a = Opens h h' a
-Makes h line.AllocPd h' a = Calls h request.AllocPd h' a
-Makes h (line.DeallocPd pd) h' a = Calls h (request.DeallocPd pd) h' a
+-- what a client makes of the history by what it asks for, and the answer that it gets
+abbrev pub Makes : List Entry → ℕ → Asked → List Entry → Answer → Type 0
+Makes h c (Opens file device) h' a = OpensFile h c file device h' a
+Makes h c (Calls file request) h' a = MakesCall h c file request h' a
+Makes h c (Refused errno) h' a = IsRefused h errno h' a
 
--- a line is played: its call stands once behind the client's earlier ones, with the answer that its reply tells
-pub record Plays (h : List Entry) (l : Line) (h' : List Entry) (s : Saying) : Type 0 where
+-- the call that a line makes, with its answer; what is refused before the machine is asked is none
+abbrev pub items_by : Asked → Answer → List Item
+items_by (Opens file device) a = Opening file device a ∷ []
+items_by (Calls file request) a = Calling file request (Some a) ∷ []
+items_by (Refused errno) a = []
+
+-- what is asked for is done: the call, if there is one, stands once behind the client's earlier ones, with the answer
+-- that its reply tells, and no other client's calls have changed
+pub record Answers (h : List Entry) (c : ℕ) (asked : Asked) (h' : List Entry) (s : Saying) : Type 0 where
   pub answer : Answer
-  pub makes : Makes h l h' answer
-  pub called : calls_of h' 1 ≡ calls_of h 1 ++ item_of l answer ∷ []
+  pub makes : Makes h c asked h' answer
+  pub called : calls_of h' c ≡ calls_of h c ++ items_by asked answer
+  pub others : (b : ℕ) → b ≢ c → calls_of h' b ≡ calls_of h b
   pub told : s ≡ saying_of answer
+
+-- a line is played, behind these texts
+abbrev pub Plays : List Entry → List Said → Line → List Entry → Saying → Type 0
+Plays h told l h' s = Answers h (client_of l.form) (asked_of told l.form) h' s
 
 -- All lines.
 
 -- the first line of several is played, and then the others
-pub record PlaysFirst (h : List Entry) (n : ℕ) (l : Line) (saids : List Said) (Others : List Entry → List Said → Type 0) : Type 0 where
+pub record PlaysFirst (h : List Entry) (told : List Said) (l : Line) (saids : List Said) (Others : List Entry → List Said → List Said → Type 0) : Type 0 where
   pub history : List Entry
   pub saying : Saying
   pub more : List Said
-  pub plays : Plays h l history saying
-  pub said : saids ≡ record { line = n; text = saying } ∷ more
-  pub others : Others history more
+  pub plays : Plays h told l history saying
+  pub said : saids ≡ record { line = l.number; text = saying } ∷ more
+  pub others : Others history (told ++ record { line = l.number; text = saying } ∷ []) more
 
--- the lines of a script, the first of this number, are played one behind the other
-abbrev pub PlaysAll : List Entry → ℕ → List Line → List Entry → List Said → Type 0
-PlaysAll h n [] h' saids = (h' ≡ h) × (saids ≡ [])
-PlaysAll h n (l ∷ ls) h' saids = PlaysFirst h n l saids (λ mid more. PlaysAll mid (n + 1) ls h' more)
+-- the lines of a script are played one behind the other, behind these texts
+abbrev pub PlaysAll : List Entry → List Said → List Line → List Entry → List Said → Type 0
+PlaysAll h told [] h' saids = (h' ≡ h) × (saids ≡ [])
+PlaysAll h told (l ∷ ls) h' saids = PlaysFirst h told l saids (λ mid known more. PlaysAll mid known ls h' more)
 
 -- The end.
-
--- what is told of an object that is left or goes
-abbrev pub left_of : Object → Left
-left_of x = record { file = x.file; kind = x.kind; handle = x.handle }
-
-abbrev pub is_left : Object → Bool
-is_left x = not (is_husk x.phase)
-
--- the objects that are no husks, oldest first
-abbrev pub all_left : State → List Left
-all_left m = map left_of (filter is_left m.objects)
 
 abbrev pub with_kill : List Entry → Option Object → List Entry
 with_kill h None = h
@@ -159,76 +221,62 @@ abbrev pub ClosesIf : Bool → List Entry → ℕ → List Entry → Type 0
 ClosesIf true h f h' = Closes h f h'
 ClosesIf false h f h' = h' ≡ h
 
+abbrev pub ClosesOpen : List Entry → ℕ → List Entry → Type 0
+ClosesOpen h f h' = ClosesIf (is_callable (phase_of (state_of h) f)) h f h'
+
+-- the first of several files is closed if it is open, and then the others
+pub record ClosesFirst (h : List Entry) (f : ℕ) (Others : List Entry → Type 0) : Type 0 where
+  pub history : List Entry
+  pub closes : ClosesOpen h f history
+  pub others : Others history
+
+-- the open ones of these files are closed, in this order
+abbrev pub ClosesAll : List Entry → List ℕ → List Entry → Type 0
+ClosesAll h [] h' = h' ≡ h
+ClosesAll h (f ∷ fs) h' = ClosesFirst h f (λ mid. ClosesAll mid fs h')
+
+-- the numbers of the files, in their order
+unfoldable pub all_files : List ℕ
+all_files = range_with_len 0 FILES
+
+-- the end of the script closes every file that is open, in the order of their numbers
 abbrev pub Ends : List Entry → List Entry → Type 0
-Ends h h' = ClosesIf (is_callable (phase_of (state_of h) 0)) h 0 h'
-
--- What a history tells of its end: the objects of the Gone entries behind a tear by the end of the script.
-
-pub record Ending : Type 0 where
-  pub state : State
-  pub begun : Bool
-  pub gone : List Left
-
-abbrev pub begins : Entry → Bool
-begins (entry.Open c f d a) = false
-begins (entry.Enter c f request a) = false
-begins (entry.Step c w o found a) = false
-begins (entry.Tear f by) = by == ENDER
-begins (entry.Kill o) = false
-begins (entry.Gone o kept) = false
-begins (entry.Closed f) = false
-
-abbrev pub gone_object : State → Bool → ℕ → List Left
-gone_object m false o = []
-gone_object m true o = option_to_list (option_map left_of (object_with m o))
-
-abbrev pub gone_by : State → Bool → Entry → List Left
-gone_by m begun (entry.Open c f d a) = []
-gone_by m begun (entry.Enter c f request a) = []
-gone_by m begun (entry.Step c w o found a) = []
-gone_by m begun (entry.Tear f by) = []
-gone_by m begun (entry.Kill o) = []
-gone_by m begun (entry.Gone o kept) = gone_object m begun o
-gone_by m begun (entry.Closed f) = []
-
-abbrev pub ending_with : Ending → Entry → Ending
-ending_with t e = record { state = after t.state e; begun = t.begun || begins e; gone = t.gone ++ gone_by t.state t.begun e }
-
-abbrev pub ending_from : Ending → List Entry → Ending
-ending_from t [] = t
-ending_from t (e ∷ es) = ending_from (ending_with t e) es
-
-abbrev pub ending_of : List Entry → Ending
-ending_of h = ending_from (record { state = start; begun = false; gone = [] }) h
-
--- the objects that went when the end of the script closed the files, in order
-abbrev pub gone_of : List Entry → List Left
-gone_of h = (ending_of h).gone
+Ends h h' = ClosesAll h all_files h'
 
 -- A whole run.
 
--- the calls that lines make, with their answers
-abbrev pub items_of : List Line → List Answer → List Item
-items_of [] answers = []
-items_of (l ∷ ls) [] = []
-items_of (l ∷ ls) (a ∷ answers) = item_of l a ∷ items_of ls answers
+-- the reply to a line
+abbrev pub reply_of : Line → Answer → Said
+reply_of l a = record { line = l.number; text = saying_of a }
 
--- the replies that tell these answers, numbered from n
-abbrev pub replies_of : ℕ → List Answer → List Said
-replies_of n [] = []
-replies_of n (a ∷ answers) = record { line = n; text = saying_of a } ∷ replies_of (n + 1) answers
+-- a line's calls in front of others, if they are this client's
+abbrev pub items_for : ℕ → ℕ → List Item → List Item → List Item
+items_for c client items more = if client == c then items ++ more else more
 
--- the client's calls are those of the lines, each once and in their order, and the replies tell their answers
+-- the calls that the lines of a client make, with their answers, behind these texts
+abbrev pub items_of : ℕ → List Said → List Line → List Answer → List Item
+items_of c told [] answers = []
+items_of c told (l ∷ ls) [] = []
+items_of c told (l ∷ ls) (a ∷ answers) =
+    items_for c (client_of l.form) (items_by (asked_of told l.form) a) (items_of c (told ++ reply_of l a ∷ []) ls answers)
+
+-- the replies that tell these answers
+abbrev pub replies_of : List Line → List Answer → List Said
+replies_of [] answers = []
+replies_of (l ∷ ls) [] = []
+replies_of (l ∷ ls) (a ∷ answers) = reply_of l a ∷ replies_of ls answers
+
+-- each client's calls are those of its lines, each once and in their order, and the replies tell their answers
 pub record AnswersAll (lines : List Line) (history : List Entry) (replies : List Said) : Type 0 where
   pub answers : List Answer
   pub each : length answers ≡ length lines
-  pub calls : calls_of history 1 ≡ items_of lines answers
-  pub told : replies ≡ replies_of 1 answers
+  pub calls : (c : ℕ) → calls_of history c ≡ items_of c [] lines answers
+  pub told : replies ≡ replies_of lines answers
 
 -- what is stored and told follows the lines of a script
 pub record FollowsScript (lines : List Line) (history : List Entry) (replies : List Said) (objects : List Left) : Type 0 where
   pub played : List Entry
-  pub plays : PlaysAll [] 1 lines played replies
+  pub plays : PlaysAll [] [] lines played replies
   pub left : objects ≡ all_left (state_of played)
   pub ends : Ends played history
   pub legal : IsLegal history

@@ -2,27 +2,25 @@
 //! is written.
 //!
 //! The layer above calls `run`, whose clauses speak by `script_of`, the lines of a script's bytes, by `FollowsScript`, what
-//! a record has to do with lines, and by `report_text`, the bytes of a report.
+//! a record has to do with lines, and by `report_of`, the bytes of a report.
 #![tactic(auto)]
 
+mod asked;
 mod ending;
-mod laws;
 mod machine;
 mod outcome;
 mod play;
 mod playing;
-mod reports;
-mod said;
-mod script;
+mod replies;
 #[cfg(test)]
 mod tests;
+mod texts;
 mod top;
 mod words;
 
-pub use laws::{forms_spell, lines_join, scripts_spell, spellings_read};
-pub use outcome::{Done, Record};
-pub use reports::{fault_text, report, too_long_text, usage_text};
-pub use said::{Left, Line, Said, Saying};
-pub use script::{Parsed, parse};
+pub use outcome::Done;
+pub use texts::{fault_text, too_long_text, usage_text};
 pub use top::{run, run_steps};
+pub use uv_model::Left;
+pub use uv_report::{Record, Said, Saying};
 pub use words::are_steps;

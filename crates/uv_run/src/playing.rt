@@ -1,33 +1,28 @@
 //! How a script is played on the machine: line by line, each call to its end.
 
-ghost use Rattle.std.specs.Prelude.{◌≡◌, ◌≤◌, ◌<◌, ◌+◌, ◌++◌, [], ◌∷◌, IfOk, OnOk, IsSome, None, Some, is_none, length};
+ghost use Rattle.std.specs.Prelude.{◌≡◌, ◌≤◌, ◌<◌, ◌+◌, ◌++◌, [], ◌∷◌, IfOk, OnOk, IsSome, IsTrue, None, Some, length};
+ghost use Rattle.uv_num.specs.declared.limits.TheConstants.{FILES, DEVICES};
+ghost use Rattle.uv_script.specs.Ranges.{IsInRange};
 ghost use Rattle.uv_machine.specs.declared.entry.Entry.TheVariants as entry;
 ghost use Rattle.uv_machine.specs.declared.entry.Answer.TheVariants as answer;
 ghost use Rattle.uv_machine.specs.States.{call_of};
 ghost use Rattle.uv_machine.specs.Plans.{entered};
 ghost use Rattle.uv_machine.specs.Effects.{refusal_in};
 ghost use Rattle.uv_machine.specs.Histories.{state_of};
-ghost use Rattle.uv_machine.specs.Outside.{MayAnswer, open_refusal, enter_refusal};
-ghost use Rattle.uv_machine.specs.Accounts.{call_owes, costs};
-ghost use Rattle.uv_run.specs.Playing.{saying_of, taken_answer, Plays, PlaysAll};
-ghost use Rattle.uv_machine.specs.Calls.{Calling, calls_of};
-ghost use Rattle.uv_num.specs.declared.limits.TheConstants.{SCRIPT_LINES};
-ghost use Rattle.uv_run.specs.Between.{IsBetween, IsOnWay, IsCalled};
+ghost use Rattle.uv_machine.specs.Outside.{MayAnswer, open_refusal, enter_refusal, has_plan};
+ghost use Rattle.uv_machine.specs.Accounts.{call_owes, unless_refused_costs};
+ghost use Rattle.uv_run.specs.Asking.{IsClient, IsInReach};
+ghost use Rattle.uv_run.specs.Playing.{saying_of, taken_answer, Answers, Plays, PlaysAll};
+ghost use Rattle.uv_run.specs.Between.{IsBetween, Enters, IsOnWay};
 
+use crate::asked::{Asked, asked_of, client_of};
 use crate::machine::Machine;
-use crate::said::{Line, Said, Saying};
+use crate::replies::Replies;
 use std::alloc::{AllocError, Global};
 use uv_machine::{Answer, Done, Entry};
 use uv_num::{Errno, List, Request, Role};
-
-/// The client that makes each call of a script.
-const CLIENT: u32 = 1;
-
-/// The file that each call of a script is on.
-pub const FILE: u32 = 0;
-
-/// The device that the file is opened on.
-const DEVICE: u32 = 0;
+use uv_report::{Said, Saying};
+use uv_script::{Line, Script};
 
 /// The entries that an open file can still cause: its tear and its close.
 const FILE_OWES: usize = 2;
@@ -50,19 +45,7 @@ fn owed_by(request: Request) -> usize
     match request.role() {
         Role::Creates(_) => 6,
         Role::Destroys(_) => 4,
-    }
-}
-
-/// The answer of an open, for which the room of a teardown is taken.
-fn open_answer(machine: &mut Machine) -> Answer
-    requires { 1 ≤ machine.old.spare }
-    ensures history { machine.new.history ≡ machine.old.history }
-    ensures may { MayAnswer (open_refusal (state_of machine.old.history) 0 0) result }
-    ensures room { machine.old.spare + costs (entry.Open 1 0 0 result) ≤ machine.new.spare + 1 }
-{
-    match machine.open_refusal(FILE, DEVICE) {
-        Some(errno) => Answer::Refused(errno),
-        None => taken(machine.widen(FILE_OWES)),
+        Role::Acts(_) => 1,
     }
 }
 
@@ -75,58 +58,78 @@ fn taken(room: Result<(), AllocError>) -> Answer
     }
 }
 
-/// The answer of an enter, for which the room of the whole call is taken.
-fn enter_answer(machine: &mut Machine, request: Request) -> Answer
+/// The answer of an open, for which the room of a teardown is taken.
+fn open_answer(machine: &mut Machine, file: u32, device: u32) -> Answer
     requires { 1 ≤ machine.old.spare }
     ensures history { machine.new.history ≡ machine.old.history }
-    ensures may { MayAnswer (enter_refusal (state_of machine.old.history) 0 request) result }
-    ensures room { machine.old.spare + costs (entry.Enter 1 0 request result) ≤ machine.new.spare + 1 }
+    ensures may { MayAnswer (open_refusal (state_of machine.old.history) file device) result }
+    ensures room { machine.old.spare + unless_refused_costs (refusal_in result) 2 ≤ machine.new.spare + 1 }
 {
-    match machine.enter_refusal(FILE, request) {
+    match machine.open_refusal(file, device) {
         Some(errno) => Answer::Refused(errno),
-        None => taken(machine.widen(owed_by(request))),
+        None => taken(machine.widen(FILE_OWES)),
     }
 }
 
-/// Opens the file.
-fn open(machine: &mut Machine) -> Answer
+/// Opens a file on a device.
+fn open(machine: &mut Machine, client: u32, file: u32, device: u32) -> Answer
+    requires client { IsClient client }
+    requires file { file < FILES }
+    requires device { device < DEVICES }
     requires between { IsBetween machine.old.history }
     requires room { 1 ≤ machine.old.spare }
-    ensures plays { Plays machine.old.history Line.Open machine.new.history (saying_of result) }
+    ensures answers { Answers machine.old.history client (Asked.Opens file device) machine.new.history (saying_of result) }
     ensures between { IsBetween machine.new.history }
     ensures spare { machine.old.spare ≤ machine.new.spare + 1 }
 {
-    let answer = open_answer(machine);
+    let answer = open_answer(machine, file, device);
     machine.make(Entry::Open {
-        client: CLIENT,
-        file: FILE,
-        device: DEVICE,
+        client,
+        file,
+        device,
         answer,
     });
     answer
 }
 
-/// Runs the client's call to its end, and answers what its exit told.
-fn run_call(machine: &mut Machine) -> Answer
-    requires way { IsOnWay machine.old.history machine.old.history answer.Ok }
-    requires flight { IsSome (call_of (state_of machine.old.history) 1) }
-    ensures way { IsOnWay machine.old.history machine.new.history result }
-    ensures ended { call_of (state_of machine.new.history) 1 ≡ None }
-    ensures spare { machine.old.spare ≤ machine.new.spare }
+/// The answer of an enter, for which the room of the whole call is taken.
+fn enter_answer(machine: &mut Machine, file: u32, request: Request) -> Answer
+    requires { 1 ≤ machine.old.spare }
+    ensures history { machine.new.history ≡ machine.old.history }
+    ensures may { MayAnswer (enter_refusal (state_of machine.old.history) file request) result }
+    ensures room { machine.old.spare + unless_refused_costs (refusal_in result) (call_owes (Some (entered file request))) ≤ machine.new.spare + 1 }
 {
-    let mut last = Answer::Ok;
-    while let Some(done) = machine.next_step(CLIENT) {
-        machine.make(step(done));
-        last = done.answer;
+    match machine.enter_refusal(file, request) {
+        Some(errno) => Answer::Refused(errno),
+        None => taken(machine.widen(owed_by(request))),
     }
-    last
 }
 
-fn step(done: Done) -> Entry
-    ensures { result ≡ entry.Step 1 done.word done.object done.found done.answer }
+/// Lets a client's call on a file enter.
+fn enter(machine: &mut Machine, client: u32, file: u32, request: Request) -> Answer
+    requires client { IsClient client }
+    requires file { file < FILES }
+    requires plan { IsTrue (has_plan request) }
+    requires between { IsBetween machine.old.history }
+    requires room { 1 ≤ machine.old.spare }
+    ensures enters { Enters machine.old.history client file request machine.new.history result }
+    ensures spare { machine.old.spare ≤ machine.new.spare + 1 }
+{
+    let answer = enter_answer(machine, file, request);
+    machine.make(Entry::Enter {
+        client,
+        file,
+        request,
+        answer,
+    });
+    answer
+}
+
+fn step(client: u32, done: Done) -> Entry
+    ensures { result ≡ entry.Step client done.word done.object done.found done.answer }
 {
     Entry::Step {
-        client: CLIENT,
+        client,
         word: done.word,
         object: done.object,
         found: done.found,
@@ -134,59 +137,90 @@ fn step(done: Done) -> Entry
     }
 }
 
-/// Makes a call on the file, to its end.
-fn call(machine: &mut Machine, request: Request) -> Answer
-    requires between { IsBetween machine.old.history }
-    requires room { 1 ≤ machine.old.spare }
-    ensures called { IsCalled machine.old.history request machine.new.history result }
-    ensures spare { machine.old.spare ≤ machine.new.spare + 1 }
+/// Runs a client's call to its end, and answers what its exit told.
+fn run_call(machine: &mut Machine, client: u32) -> Answer
+    requires client { IsClient client }
+    requires way { IsOnWay machine.old.history client machine.old.history answer.Ok }
+    ensures way { IsOnWay machine.old.history client machine.new.history result }
+    ensures ended { call_of (state_of machine.new.history) client ≡ None }
+    ensures spare { machine.old.spare ≤ machine.new.spare }
 {
-    let entered = enter_answer(machine, request);
-    machine.make(Entry::Enter {
-        client: CLIENT,
-        file: FILE,
-        request,
-        answer: entered,
-    });
-    match entered.refusal() {
-        Some(_) => entered,
-        None => run_call(machine),
+    let mut last = Answer::Ok;
+    while let Some(done) = machine.next_step(client) {
+        machine.make(step(client, done));
+        last = done.answer;
     }
+    last
 }
 
-/// Plays a line, and tells its reply.
-fn play_line(machine: &mut Machine, line: Line) -> Saying
+/// Makes a call on a file, to its end.
+fn call(machine: &mut Machine, client: u32, file: u32, request: Request) -> Answer
+    requires client { IsClient client }
+    requires file { file < FILES }
+    requires plan { IsTrue (has_plan request) }
     requires between { IsBetween machine.old.history }
     requires room { 1 ≤ machine.old.spare }
-    ensures plays { Plays machine.old.history line machine.new.history result }
+    ensures answers { Answers machine.old.history client (Asked.Calls file request) machine.new.history (saying_of result) }
     ensures between { IsBetween machine.new.history }
     ensures spare { machine.old.spare ≤ machine.new.spare + 1 }
 {
-    match line {
-        Line::Open => saying(open(machine)),
-        Line::AllocPd => saying(call(machine, Request::AllocPd)),
-        Line::DeallocPd { pd } => saying(call(machine, Request::DeallocPd { pd })),
+    let entered = enter(machine, client, file, request);
+    match entered.refusal() {
+        Some(_) => entered,
+        None => run_call(machine, client),
     }
+}
+
+/// Does what a client asks for, and tells the answer.
+fn ask(machine: &mut Machine, client: u32, asked: Asked) -> Answer
+    requires client { IsClient client }
+    requires reach { IsInReach asked }
+    requires between { IsBetween machine.old.history }
+    requires room { 1 ≤ machine.old.spare }
+    ensures answers { Answers machine.old.history client asked machine.new.history (saying_of result) }
+    ensures between { IsBetween machine.new.history }
+    ensures spare { machine.old.spare ≤ machine.new.spare + 1 }
+{
+    match asked {
+        Asked::Opens { file, device } => open(machine, client, file, device),
+        Asked::Calls { file, request } => call(machine, client, file, request),
+        Asked::Refused { errno } => Answer::Refused(errno),
+    }
+}
+
+/// Plays a line behind these replies, and tells its own.
+fn play_line(machine: &mut Machine, replies: &Replies, line: Line) -> Saying
+    requires range { IsInRange line }
+    requires between { IsBetween machine.old.history }
+    requires room { 1 ≤ machine.old.spare }
+    ensures plays { Plays machine.old.history replies.now line machine.new.history result }
+    ensures between { IsBetween machine.new.history }
+    ensures spare { machine.old.spare ≤ machine.new.spare + 1 }
+{
+    let client = client_of(line.form);
+    let asked = asked_of(replies, line.form);
+    saying(ask(machine, client, asked))
 }
 
 /// Plays the lines of a script, and tells their replies.
 pub fn play_lines(
     alloc: Global,
     machine: &mut Machine,
-    lines: &[Line],
+    script: &Script,
 ) -> Result<List<Said>, AllocError>
     requires fresh { machine.old.history ≡ [] }
-    requires room { length lines.now ≤ machine.old.spare }
-    requires limit { length lines.now ≤ SCRIPT_LINES }
-    ensures plays { IfOk result (λ saids. PlaysAll [] 1 lines.now machine.new.history saids) }
+    requires room { length script.now ≤ machine.old.spare }
+    ensures plays { IfOk result (λ saids. PlaysAll [] [] script.now machine.new.history saids) }
     ensures between { OnOk result (IsBetween machine.new.history) }
 {
-    let mut replies = List::new(alloc);
-    let mut number = 1;
-    for line in lines {
-        let text = play_line(machine, *line);
-        replies.push(Said { line: number, text })?;
-        number += 1;
+    let mut replies = Replies::new(alloc);
+    for place in 0..script.len() {
+        let line = *script.line(place);
+        let text = play_line(machine, &replies, line);
+        replies.put(Said {
+            line: line.number,
+            text,
+        })?;
     }
-    Ok(replies)
+    Ok(replies.into_list())
 }

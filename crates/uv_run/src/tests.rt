@@ -20,6 +20,46 @@ const LEAST_FREE_NUMBER: &str =
 const LEAST_FREE_NUMBER_REPORT: &str =
     "1 ok\n2 ok 0\n3 ok 1\n4 ok\n5 ok 0\nleft 2\nend gone f0 pd 0\nend gone f0 pd 1\n";
 
+/// The handle of a create that was refused names nothing, and what stands on one file isn't found on another.
+const NAMES_AND_FILES: &str =
+    "# a comment\nc2 f3 open d1\nc2 f3 alloc_pd as p\nc1 f3 dealloc_pd p\nc1 f3 dealloc_pd p\nc1 f2 alloc_pd as q\nc1 f3 dealloc_pd q\nc1 f3 open d0\n";
+
+const NAMES_AND_FILES_REPORT: &str =
+    "2 ok\n3 ok 0\n4 ok\n5 ENOENT\n6 EBADF\n7 ENOENT\n8 EINVAL\nleft 0\n";
+
+/// Files are closed in the order of their numbers, not in that of their opens.
+const TWO_FILES_LEFT: &str =
+    "c2 f9 open d0\nc1 f4 open d1\nc2 f9 alloc_pd\nc1 f4 alloc_pd\nc1 f4 alloc_pd\n";
+
+const TWO_FILES_LEFT_REPORT: &str =
+    "1 ok\n2 ok\n3 ok 0\n4 ok 0\n5 ok 1\nleft 3\nend gone f4 pd 1\nend gone f4 pd 0\nend gone f9 pd 0\n";
+
+/// Each line of bytes is the free of domain 0 with one thing changed, but for the last two, which free it.
+const COMMAND_BYTES: &str = "c1 f0 open d0
+c1 f0 alloc_pd
+c1 f0 raw 29000100020001000000000000000000000000000000000001000800010000000000000000000000
+c1 f0 raw 28000100020001000000000000000000000000000100000001000800010000000000000000000000
+c1 f0 raw 2800010002000100000000000000000000000000000000
+c1 f0 raw 3800010002000200000000000000000000000000000000000100080001000000000000000000000001000800010000000000000000000000
+c1 f0 raw 180001000200000000000000000000000000000000000000
+c1 f0 raw 3800010002000200000000000000000000000000000000000100080001000000000000000000000009000800010000000000000000000000
+c1 f0 raw 3800010002000200000000000000000000000000000000000100080001000000000000000000000009000800000000000000000000000000
+c1 f0 raw 28000100020001000000000000000000000000000000000001000800010000000000000000000000
+";
+
+const COMMAND_BYTES_REPORT: &str = "1 ok
+2 ok 0
+3 EINVAL
+4 EPROTONOSUPPORT
+5 EINVAL
+6 EINVAL
+7 EINVAL
+8 EPROTONOSUPPORT
+9 ok
+10 ENOENT
+left 0
+";
+
 const USAGE: &str = "usage: verbsrun steps | threads W | gen SEED COUNT\n";
 
 /// A source that gives one byte at a time.
@@ -72,7 +112,7 @@ fn expect_run(
     assert_eq!(rt; sink.bytes(), text.as_bytes(), "of {script}");
     assert_eq!(rt;
         is_untold(&done),
-        status != 0 || script.is_empty(),
+        status != 0 || text == "left 0\n",
         "of {script}"
     );
     Ok(())
@@ -82,24 +122,26 @@ fn expect_run(
 fn scripts_are_run_and_told(rt: HostRuntime) -> Result<(), Fail> {
     let rows = [
         ("", 0, "left 0\n"),
+        ("# only\n\n \t\r\n#remarks", 0, "left 0\n"),
         ("c1 f0 open d0\n", 0, "1 ok\nleft 0\n"),
         (LEAST_FREE_NUMBER, 0, LEAST_FREE_NUMBER_REPORT),
+        (NAMES_AND_FILES, 0, NAMES_AND_FILES_REPORT),
+        (TWO_FILES_LEFT, 0, TWO_FILES_LEFT_REPORT),
+        (COMMAND_BYTES, 0, COMMAND_BYTES_REPORT),
         (
-            "c1 f0 open d0\nc1 f0 dealloc_pd #0\n",
+            "c8 f15 open d1\r\nc1\tf15  alloc_pd as a\r\nc1 f15 alloc_pd as b\r\nc8 f15 dealloc_pd b",
             0,
-            "1 ok\n2 ENOENT\nleft 0\n",
+            "1 ok\n2 ok 0\n3 ok 1\n4 ok\nleft 1\nend gone f15 pd 0\n",
+        ),
+        (
+            "c1 f0 open d0\nc1 f0 alloc_pd as p\nc1 f0 alloc_pd as p\n",
+            1,
+            "script fault at line 3\n",
         ),
         (
             "c1 f0 open d0\nc9 f0 open d0\n",
             1,
             "script fault at line 2\n",
-        ),
-        ("c1 f0 open d0", 1, "script fault at line 1\n"),
-        ("c1 f0 alloc_pd\n", 1, "script fault at line 1\n"),
-        (
-            "c1 f0 open d0\nc1 f0 alloc_pd\nc1 f0 dealloc_pd #00\n",
-            1,
-            "script fault at line 3\n",
         ),
     ];
     for (script, status, text) in rows.iter() {
@@ -117,48 +159,52 @@ fn bytes_come_one_at_a_time(rt: HostRuntime) -> Result<(), Fail> {
     Ok(())
 }
 
-/// A script that allocates so many domains and then frees them all, newest first.
-fn made_and_freed(alloc: Global, count: u32) -> Result<String, AllocError> {
+/// A script that allocates so many domains.
+fn many_made(alloc: Global, count: u32) -> Result<String, AllocError> {
     let mut script = String::from_str(alloc, "c1 f0 open d0\n")?;
     for _turn in 0..count {
         script.push_str("c1 f0 alloc_pd\n")?;
     }
-    for handle in (0..count).rev() {
-        write!(script, "c1 f0 dealloc_pd #{handle}\n")?;
-    }
     Ok(script)
 }
 
+/// The replies to it, of which so many are accepted.
+fn many_told(alloc: Global, count: u32) -> Result<String, AllocError> {
+    let mut report = String::from_str(alloc, "1 ok\n")?;
+    for handle in 0..count {
+        write!(report, "{} ok {handle}\n", u64::from(handle) + 2)?;
+    }
+    Ok(report)
+}
+
+/// The lines for the domains that are left, the one of handle 0 being the newest.
+fn many_gone(report: &mut String, count: u32) -> Result<(), AllocError> {
+    report.push_str("end gone f0 pd 0\n")?;
+    for handle in (1..count).rev() {
+        write!(report, "end gone f0 pd {handle}\n")?;
+    }
+    Ok(())
+}
+
 #[test]
-fn as_many_domains_as_cells_are_made_and_freed(rt: HostRuntime) -> Result<(), Fail> {
-    let script = made_and_freed(rt.alloc(), 64)?;
-    let mut report = String::from_str(rt.alloc(), "1 ok\n")?;
-    for handle in 0..64u32 {
-        write!(report, "{} ok {handle}\n", handle + 2)?;
-    }
-    for turn in 0..64u32 {
-        write!(report, "{} ok\n", turn + 66)?;
-    }
-    report.push_str("left 0\n")?;
+fn domains_run_out_of_cells(rt: HostRuntime) -> Result<(), Fail> {
+    let mut script = many_made(rt.alloc(), 65)?;
+    script.push_str("c1 f0 dealloc_pd #0\nc1 f0 alloc_pd\n")?;
+    let mut report = many_told(rt.alloc(), 64)?;
+    report.push_str("66 ENOSPC\n67 ok\n68 ok 0\nleft 64\n")?;
+    many_gone(&mut report, 64)?;
     expect_run(&rt, rt.alloc(), script.as_str(), 0, report.as_str())?;
-    let over = made_and_freed(rt.alloc(), 65)?;
-    expect_run(
-        &rt,
-        rt.alloc(),
-        over.as_str(),
-        1,
-        "script fault at line 66\n",
-    )?;
     Ok(())
 }
 
 #[test]
 fn more_bytes_than_a_script_has_are_too_long(rt: HostRuntime) -> Result<(), Fail> {
-    for (count, status, text) in [
-        (1_048_576, 1, "script fault at line 1\n"),
-        (1_048_577, 6, "script too long\n"),
+    for (byte, count, status, text) in [
+        (b' ', 1_048_576, 0, "left 0\n"),
+        (b'\n', 1_048_576, 1, "script fault at line 20001\n"),
+        (b' ', 1_048_577, 6, "script too long\n"),
     ] {
-        let bytes = Bytes::from_vec(vec![in rt.alloc(); b'\n'; count]?);
+        let bytes = Bytes::from_vec(vec![in rt.alloc(); byte; count]?);
         let mut sink = CleanSink::new(rt.alloc(), ROOM)?;
         let done = run_steps(rt.alloc(), &mut CleanSource::new(bytes), &mut sink);
         assert_eq!(rt; done.status, status, "{count} bytes");
@@ -204,7 +250,7 @@ fn a_failed_write_cuts_the_report_short(rt: HostRuntime) -> Result<(), Fail> {
 
 #[test]
 fn a_fault_of_the_script_stays_where_its_text_fails(rt: HostRuntime) -> Result<(), Fail> {
-    let mut source = CleanSource::new(bytes_of(rt.alloc(), "\n")?);
+    let mut source = CleanSource::new(bytes_of(rt.alloc(), "x")?);
     let mut sink = MemSink::new(rt.alloc(), 6, just(rt.alloc(), 1)?)?;
     let done = run_steps(rt.alloc(), &mut source, &mut sink);
     assert_eq!(rt; done.status, 1);

@@ -2,26 +2,26 @@
 
 ghost use Rattle.std.specs.Prelude.{◌≡◌, ◌≢◌, ◌≤◌, ◌+◌, ◌⊎◌, length, IfOk, Ok};
 ghost use Rattle.std.specs.Io.KnownBytes.{Appends};
-ghost use Rattle.uv_num.specs.declared.limits.TheConstants.{SCRIPT_BYTES, SCRIPT_LINES};
+ghost use Rattle.uv_num.specs.declared.limits.TheConstants.{SCRIPT_BYTES};
 ghost use Rattle.uv_io.specs.Faults.{Rose};
 ghost use Rattle.uv_io.specs.Whole.{ReadsPrefix, ReadsCount};
-ghost use Rattle.uv_run.specs.Outcome.{IsEmptyRecord, IsCutShort, WritesUnlessFault, RunsBytes, RunsScript, TellsFault, RefusesScript, IsScriptLeft, IsRunOrNoMemory, IsBytesStatus, IsStepsStatus, Reports, ReportsCutShort, FailsReading, RefusesLength, report_of};
-ghost use Rattle.uv_run.specs.Playing.{FollowsScript, gone_of};
-ghost use Rattle.uv_run.specs.Report.{fault_line, too_long_line, usage_line};
-ghost use Rattle.uv_run.specs.Script.{script_of};
+ghost use Rattle.uv_run.specs.Outcome.{IsEmptyRecord, IsCutShort, WritesUnlessFault, RunsBytes, RunsScript, TellsFault, RefusesScript, IsScriptLeft, IsRunOrNoMemory, IsBytesStatus, IsStepsStatus, Reports, ReportsCutShort, FailsReading, RefusesLength};
+ghost use Rattle.uv_report.specs.Report.{report_of};
+ghost use Rattle.uv_run.specs.Playing.{FollowsScript};
+ghost use Rattle.uv_run.specs.Texts.{fault_line, too_long_line, usage_line};
 ghost use Rattle.uv_run.specs.Words.{AreSteps};
 
-use crate::outcome::{Done, Record};
-use crate::play::{Played, play};
-use crate::reports::{fault_text, report, too_long_text, usage_text};
-use crate::said::Line;
-use crate::script::{Parsed, parse};
+use crate::outcome::Done;
+use crate::play::play;
+use crate::texts::{fault_text, too_long_text, usage_text};
 use crate::words::are_steps;
 use std::alloc::{AllocError, Global};
 use std::sync::Wait;
 use std::thread::Threads;
 use uv_io::{Failed, Gate, ReadAll, Sink, Source, read_all, write_all};
-use uv_num::{Bytes, List, SCRIPT_BYTES};
+use uv_num::{List, SCRIPT_BYTES};
+use uv_report::{Record, write};
+use uv_script::{Mode, Script, ScriptFault, parse};
 
 /// The end of a run that told nothing.
 fn ended(alloc: Global, status: u8) -> Done
@@ -59,45 +59,28 @@ fn written<K: Sink>(sink: &mut K, text: &[u8]) -> u8
     }
 }
 
-/// The report of a script that was played.
-fn report_played(alloc: Global, played: &Played) -> Result<Bytes, AllocError>
-    requires { played.now.gone ≡ gone_of played.now.record.history }
-    ensures { IfOk result (λ text. text.bytes ≡ report_of played.now.record) }
-{
-    report(
-        alloc,
-        played.record.replies.as_slice(),
-        played.record.left.len(),
-        played.gone.as_slice(),
-    )
-}
-
 /// Runs the lines of a script, and writes the report.
-fn run_lines<K: Sink>(alloc: Global, lines: &[Line], sink: &mut K) -> Done
-    requires { length lines.now ≤ SCRIPT_LINES }
+fn run_lines<K: Sink>(alloc: Global, script: &Script, sink: &mut K) -> Done
     ensures statuses { IsRunOrNoMemory result.status ⊎ (result.status ≡ 4) }
-    ensures whole { result.status ≡ 0 → FollowsScript lines.now result.told.history result.told.replies result.told.left }
+    ensures whole { result.status ≡ 0 → FollowsScript script.now result.told.history result.told.replies result.told.left }
     ensures report { result.status ≡ 0 → Appends (K.written sink.old) (K.written sink.new) (report_of result.told) }
-    ensures part { result.status ≡ 4 → FollowsScript lines.now result.told.history result.told.replies result.told.left }
+    ensures part { result.status ≡ 4 → FollowsScript script.now result.told.history result.told.replies result.told.left }
     ensures cut { result.status ≡ 4 → IsCutShort (K.written sink.old) (K.written sink.new) (K.faults sink.old) (K.faults sink.new) (report_of result.told) }
     ensures silent { result.status ≡ 5 → sink.new ≡ sink.old }
     ensures told { result.status ≡ 5 → IsEmptyRecord result.told }
     ensures later { K.faults sink.old ≤ K.faults sink.new }
 {
-    let Ok(played) = play(alloc, lines) else {
+    let Ok(told) = play(alloc, script) else {
         return ended(alloc, 5);
     };
-    let Ok(text) = report_played(alloc, &played) else {
+    let Ok(text) = write(alloc, script, &told) else {
         return ended(alloc, 5);
     };
     let status = written(sink, text.as_slice());
-    Done {
-        status,
-        told: played.record,
-    }
+    Done { status, told }
 }
 
-/// Tells the line that is outside the grammar.
+/// Tells the line that is outside the language.
 fn tell_fault<K: Sink>(alloc: Global, line: u32, sink: &mut K) -> Done
     ensures statuses { (result.status ≡ 1) ⊎ (result.status ≡ 5) }
     ensures text { result.status ≡ 1 → WritesUnlessFault (K.written sink.old) (K.written sink.new) (K.faults sink.old) (K.faults sink.new) (fault_line line) }
@@ -124,10 +107,10 @@ fn run_bytes<K: Sink>(alloc: Global, bytes: &[u8], sink: &mut K) -> Done
     ensures told { result.status ≢ 0 → result.status ≢ 4 → IsEmptyRecord result.told }
     ensures later { K.faults sink.old ≤ K.faults sink.new }
 {
-    match parse(alloc, bytes) {
-        Parsed::Script(lines) => run_lines(alloc, lines.as_slice(), sink),
-        Parsed::Fault(line) => tell_fault(alloc, line, sink),
-        Parsed::NoMemory => ended(alloc, 5),
+    match parse(alloc, bytes, Mode::Steps) {
+        Ok(script) => run_lines(alloc, &script, sink),
+        Err(ScriptFault::At(line)) => tell_fault(alloc, line, sink),
+        Err(ScriptFault::NoMemory) => ended(alloc, 5),
     }
 }
 
@@ -182,8 +165,8 @@ fn tell_usage<K: Sink>(alloc: Global, sink: &mut K) -> Done
 
 /// Reads a script from the source, runs it, and writes its report to the sink.
 ///
-/// What comes first decides: reading, then the grammar, then the run, then writing. Nothing is run of a script that has
-/// a line outside the grammar. Where the sink fails as the text of another status than 0 is written, that status
+/// What comes first decides: reading, then the language, then the run, then writing. Nothing is run of a script that has
+/// a line outside the language. Where the sink fails as the text of another status than 0 is written, that status
 /// stays. Want of memory is status 5; where the call of one line meets it, that line is answered `ENOMEM`.
 pub fn run_steps<S: Source, K: Sink>(alloc: Global, source: &mut S, sink: &mut K) -> Done
     ensures statuses { IsStepsStatus result.status }

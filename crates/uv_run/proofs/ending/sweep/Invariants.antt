@@ -3,9 +3,9 @@ use Rattle.uv_machine.specs.Laws.{standing_count}
 use Rattle.uv_run.specs.Ended.{IsSweeping}
 use Rattle.uv_run.proofs.ending.sweep.Given as goal
 
--- the sweep has come so far, and these objects are gone
+-- the sweep has come so far
 abbrev pub invariant-loop-x : goal.invariant-loop-x
-invariant-loop-x l = IsSweeping l.initial.machine.history l.machine.history l.gone
+invariant-loop-x l = IsSweeping l.initial.machine.history l.file l.machine.history
 
 abbrev pub decreases-loop-x : goal.decreases-loop-x
-decreases-loop-x l = standing_count (state_of l.machine.history) 0
+decreases-loop-x l = standing_count (state_of l.machine.history) l.file

@@ -1,25 +1,18 @@
-use Rattle.std.proofs.Common.{◌≡◌, List, [], ◌∷◌, ◌++◌, ap, sym, subst, ◌∙◌}
-use Rattle.uv_machine.specs.declared.entry.Entry.{Entry}
+use Rattle.std.proofs.Common.{[], ◌∷◌, ◌++◌, ap, ◌∙◌}
 use Rattle.uv_machine.specs.declared.entry.Entry.TheVariants as entry
-use Rattle.uv_machine.specs.Histories.{IsLegal}
-use Rattle.uv_run.specs.declared.said.Line.TheVariants as line
-use Rattle.uv_run.specs.Playing.{Plays, saying_of}
-use Rattle.uv_run.specs.Between.{IsBetween}
-use Rattle.uv_run.proofs.Ways.{Plays-open, IsBetween-open}
+use Rattle.uv_run.proofs.Ways.{opened_between, opened_answers}
 use Rattle.uv_run.proofs.playing.open.Goals as goal
 
-pub returns-clause-plays : goal.returns-clause-plays
-returns-clause-plays c =
-    let h = c.args.machine.now.history in
+pub returns-clause-answers : goal.returns-clause-answers
+returns-clause-answers c =
     let a = c.open_answer-answer.result in
-    let P : List Entry → Type 0 = λ v. Plays h line.Open v (saying_of a) in
-    subst P (sym (c.make.ensures.history ∙ ap (λ v. v ++ entry.Open 1 0 0 a ∷ []) c.open_answer-answer.ensures.history)) (Plays-open h a c.open_answer-answer.ensures.may)
+    let e = entry.Open c.args.client c.args.file c.args.device c.open_answer-answer.result in
+    opened_answers c.args.machine.now.history _ c.args.client c.args.file c.args.device a c.open_answer-answer.ensures.may
+    (c.make.ensures.history ∙ ap (λ v. v ++ e ∷ []) c.open_answer-answer.ensures.history)
 
 pub returns-clause-between : goal.returns-clause-between
 returns-clause-between c =
-    let h = c.args.machine.now.history in
     let a = c.open_answer-answer.result in
-    let e : c.make.new.self.history ≡ h ++ entry.Open 1 0 0 a ∷ [] = c.make.ensures.history ∙ ap (λ v. v ++ entry.Open 1 0 0 a ∷ []) c.open_answer-answer.ensures.history in
-    let P : List Entry → Type 0 = IsBetween in
-    let Q : List Entry → Type 0 = IsLegal in
-    subst P (sym e) (IsBetween-open h a c.requires.between c.open_answer-answer.ensures.may (subst Q e c.make.ensures.legal))
+    let e = entry.Open c.args.client c.args.file c.args.device c.open_answer-answer.result in
+    opened_between c.args.machine.now.history _ c.args.client c.args.file c.args.device a c.requires.between c.requires.client c.requires.file c.requires.device c.open_answer-answer.ensures.may
+    (c.make.ensures.history ∙ ap (λ v. v ++ e ∷ []) c.open_answer-answer.ensures.history) c.make.ensures.legal

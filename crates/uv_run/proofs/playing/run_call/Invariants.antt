@@ -7,7 +7,7 @@ use Rattle.uv_run.proofs.playing.run_call.Given as goal
 
 -- the call is on its way, and no room of others' was taken
 abbrev pub invariant-loop-done : goal.invariant-loop-done
-invariant-loop-done l = IsOnWay l.initial.machine.history l.machine.history l.last × (l.initial.machine.spare ≤ l.machine.spare)
+invariant-loop-done l = IsOnWay l.initial.machine.history l.client l.machine.history l.last × (l.initial.machine.spare ≤ l.machine.spare)
 
 abbrev pub decreases-loop-done : goal.decreases-loop-done
-decreases-loop-done l = steps_ahead (call_of (state_of l.machine.history) 1)
+decreases-loop-done l = steps_ahead (call_of (state_of l.machine.history) l.client)

@@ -1,6 +1,6 @@
 use Rattle.std.proofs.Common.{ℕ, List, ◌≡◌, ◌∙◌, subst}
 use Rattle.uv_run.specs.Outcome.{WritesUnlessFault}
-use Rattle.uv_run.specs.Report.{fault_line}
+use Rattle.uv_run.specs.Texts.{fault_line}
 use Rattle.uv_run.proofs.top.tell_fault.Goals as goal
 
 pub returns-clause-text : goal.returns-clause-text

@@ -1,4 +1,4 @@
-use Rattle.std.proofs.Common.{◌≡◌, ◌≤◌, ◌+◌, ◌-◌, subst, sym}
+use Rattle.std.proofs.Common.{◌≤◌, ◌+◌, ◌-◌, subst, sym}
 use Rattle.uv_machine.specs.Histories.{Allowed, state_of}
 use Rattle.uv_machine.specs.Accounts.{owed, costs}
 use Rattle.uv_run.specs.Kept.{Kept}

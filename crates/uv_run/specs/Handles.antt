@@ -1,0 +1,11 @@
+-- The handles that are kept beside the replies.
+use Rattle.std.specs.Prelude.{ℕ, ◌≡◌, List, unwrap_or}
+use Rattle.std.specs.Ordering.{nat_cmp}
+use Rattle.std.specs.BTreeMap.{BTreeMap, get}
+use Rattle.uv_num.specs.declared.limits.TheConstants.{NONE}
+use Rattle.uv_report.specs.declared.record.Said.{Said}
+use Rattle.uv_run.specs.Playing.{given}
+
+-- the handles that are kept by their lines are those that the replies tell
+abbrev pub AreTold : BTreeMap ℕ ℕ → List Said → Type 0
+AreTold handles told = (line : ℕ) → unwrap_or (get nat_cmp handles line) NONE ≡ given told line
