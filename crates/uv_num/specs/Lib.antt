@@ -7,6 +7,7 @@ pub mod Filled
 pub mod Ids
 pub mod Kind
 pub mod ListLending
+pub mod Looks
 pub mod Modify
 pub mod Place
 pub mod Prefix

@@ -2,7 +2,7 @@
 
 ghost use Rattle.std.specs.Prelude.{◌≡◌, [], ◌∷◌, ◌++◌, ◌<◌, ◌==◌, length, slice_get, drop};
 ghost use Rattle.std.specs.List.{list_any};
-ghost use Rattle.uv_num.specs.Ids.{ids_of, is_number};
+ghost use Rattle.uv_num.specs.Ids.{ids_of, ids_and, ids_behind, first_alone, is_number};
 
 /// At most four ids of objects, in order: as many as any request looks at. This project's own.
 #[derive(Clone, Copy, Debug, PartialEq, Eq)]
@@ -45,6 +45,43 @@ impl Ids {
             Ids::Two(a, b) => Ids::Three(a, b, id),
             Ids::Three(a, b, c) => Ids::Four(a, b, c, id),
             Ids::Four(..) => unreachable!(),
+        }
+    }
+
+    /// The ids with one more behind them. Four have no room for another and stay.
+    pub fn and(self, id: u32) -> Ids
+        ensures { result ≡ ids_and self id }
+    {
+        match self {
+            Ids::Empty => Ids::One(id),
+            Ids::One(a) => Ids::Two(a, id),
+            Ids::Two(a, b) => Ids::Three(a, b, id),
+            Ids::Three(a, b, c) => Ids::Four(a, b, c, id),
+            Ids::Four(a, b, c, d) => Ids::Four(a, b, c, d),
+        }
+    }
+
+    /// The ids behind the first one.
+    pub fn behind(self) -> Ids
+        ensures { result ≡ ids_behind self }
+    {
+        match self {
+            Ids::Empty | Ids::One(_) => Ids::Empty,
+            Ids::Two(_, next) => Ids::One(next),
+            Ids::Three(_, b, c) => Ids::Two(b, c),
+            Ids::Four(_, b, c, d) => Ids::Three(b, c, d),
+        }
+    }
+
+    /// The first id alone.
+    pub fn first_alone(self) -> Ids
+        ensures { result ≡ first_alone self }
+    {
+        match self {
+            Ids::Empty => Ids::Empty,
+            Ids::One(a) | Ids::Two(a, _) | Ids::Three(a, _, _) | Ids::Four(a, _, _, _) => Ids::One(
+                a,
+            ),
         }
     }
 

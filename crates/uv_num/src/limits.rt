@@ -72,6 +72,10 @@ pub const PSNS: u64 = 1 << 24;
 /// The numbers of queue pairs, from 0: they have 24 bits.
 pub const QP_NUMBERS: u64 = 1 << 24;
 
+/// The number of the queue pair in cell 0; the others follow in the order of their cells. It is `RXE_MIN_QP_INDEX` of
+/// `sw/rxe` (`rxe_param.h`): the numbers below are not given out.
+pub const FIRST_QP_NUMBER: u32 = 16;
+
 /// The path MTUs, in bytes: those of `enum ib_mtu` of Linux (`rdma/ib_verbs.h`).
 pub const MTUS: [u64; 5] = [256, 512, 1_024, 2_048, 4_096];
 

@@ -1,7 +1,7 @@
 //! Requests, and the table that says what each one does to the object graph.
 
 ghost use Rattle.std.specs.Prelude.{◌≡◌, ◌↔◌, IsTrue};
-ghost use Rattle.uv_num.specs.Request.{destroys, role_of};
+ghost use Rattle.uv_num.specs.Request.{binds, destroys, role_of};
 
 use crate::{Kind, QpAttrs};
 
@@ -150,11 +150,32 @@ pub struct Ask {
 #[derive(Clone, Copy, Debug, PartialEq, Eq)]
 pub enum Act {
     /// It takes a queue pair to another state.
-    Modify,
+    Modify {
+        /// The new state's number.
+        to: u64,
+        /// The attributes that go with it.
+        attrs: QpAttrs,
+    },
     /// It tells a queue pair's state.
     Query,
-    /// It binds or unbinds a window.
-    Bind,
+    /// It binds a window to a range of a region.
+    Bind {
+        /// Where the range begins, in bytes from the region's begin.
+        offset: u64,
+        /// The range's length in bytes.
+        length: u64,
+        /// The window's rights.
+        access: u64,
+    },
+    /// It unbinds a window. What it gives has to be 0.
+    Unbind {
+        /// An offset.
+        offset: u64,
+        /// A length.
+        length: u64,
+        /// Rights.
+        access: u64,
+    },
     /// It takes an event.
     Async,
 }
@@ -177,6 +198,24 @@ fn destroys(kind: Kind, handle: u32) -> Role
     Role::Destroys(Ask { kind, handle })
 }
 
+/// A window is bound to the region that is named, else it is unbound.
+fn binds(mr: Option<u32>, offset: u64, length: u64, access: u64) -> Act
+    ensures { result ≡ binds mr offset length access }
+{
+    match mr {
+        None => Act::Unbind {
+            offset,
+            length,
+            access,
+        },
+        Some(_) => Act::Bind {
+            offset,
+            length,
+            access,
+        },
+    }
+}
+
 impl Request {
     /// What the request does to the object graph.
     pub fn role(self) -> Role
@@ -191,7 +230,7 @@ impl Request {
             Request::DestroyCq { cq } => destroys(Kind::Cq, cq),
             Request::CreateQp { .. } => Role::Creates(Kind::Qp),
             Request::DestroyQp { qp } => destroys(Kind::Qp, qp),
-            Request::ModifyQp { .. } => Role::Acts(Act::Modify),
+            Request::ModifyQp { to, attrs, .. } => Role::Acts(Act::Modify { to, attrs }),
             Request::QueryQp { .. } => Role::Acts(Act::Query),
             Request::CreateSrq { .. } => Role::Creates(Kind::Srq),
             Request::DestroySrq { srq } => destroys(Kind::Srq, srq),
@@ -201,7 +240,13 @@ impl Request {
             Request::DeregMr { mr } => destroys(Kind::Mr, mr),
             Request::AllocMw { .. } => Role::Creates(Kind::Mw),
             Request::DeallocMw { mw } => destroys(Kind::Mw, mw),
-            Request::BindMw { .. } => Role::Acts(Act::Bind),
+            Request::BindMw {
+                mr,
+                offset,
+                length,
+                access,
+                ..
+            } => Role::Acts(binds(mr, offset, length, access)),
             Request::GetAsync => Role::Acts(Act::Async),
         }
     }
