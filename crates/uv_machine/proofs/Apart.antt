@@ -5,13 +5,15 @@ use Rattle.std.proofs.Common.{ap, suc, ◌∙◌}
 use Rattle.std.proofs.lemmas.Bool.{eqb-false}
 use Rattle.uv_num.specs.declared.errno.Errno.{Errno}
 use Rattle.uv_num.specs.declared.kind.Kind.{Kind}
+use Rattle.uv_num.specs.declared.request.Act as request
+use Rattle.uv_num.specs.declared.request.Act.TheVariants.{Modify, Query, Bind, Unbind, Async}
 use Rattle.uv_num.specs.declared.request.Role.{Role}
 use Rattle.uv_num.specs.declared.request.Role.TheVariants.{Creates, Destroys, Acts}
 use Rattle.uv_num.specs.Request.{role_of}
 use Rattle.uv_machine.specs.declared.entry.Entry.{Entry}
-use Rattle.uv_machine.specs.declared.entry.Entry.TheVariants.{Open, Enter, Step, Tear, Kill, Gone, Closed}
+use Rattle.uv_machine.specs.declared.entry.Entry.TheVariants.{Open, Enter, Step, Unplug, Tear, Kill, Gone, Dissociated, Closed}
 use Rattle.uv_machine.specs.declared.entry.Word.{Word}
-use Rattle.uv_machine.specs.declared.entry.Word.TheVariants.{Reserve, Make, Commit, Lock, Check, Finish, Abort, Exit}
+use Rattle.uv_machine.specs.declared.entry.Word.TheVariants.{Reserve, Look, Make, Commit, Act, Lock, Check, Finish, Abort, Free, Exit}
 use Rattle.uv_machine.specs.declared.entry.Answer.{Answer}
 use Rattle.uv_machine.specs.declared.object.Object.{Object}
 use Rattle.uv_machine.specs.declared.call.InFlight.{InFlight}
@@ -19,7 +21,7 @@ use Rattle.uv_machine.specs.declared.state.State.{State}
 use Rattle.uv_machine.specs.Objects.{is_doomed}
 use Rattle.uv_machine.specs.Plans.{is_call_on}
 use Rattle.uv_machine.specs.States.{the_call, call_of, object_with, home_cell, is_quiet}
-use Rattle.uv_machine.specs.Effects.{refusal_in, unless_refused, unless_answered, with_burial, buried_if_doomed, gone_from, stepped, after_step, make, make_at}
+use Rattle.uv_machine.specs.Effects.{refusal_in, unless_refused, unless_answered, with_burial, buried_if_doomed, gone_from, stepped, after_step, make, make_at, act, act_by}
 use Rattle.uv_machine.specs.Histories.{after}
 use Rattle.uv_machine.specs.Laws.{is_of, IsIdle}
 use Rattle.uv_machine.proofs.Members.{slice_get-at_place_elsewhere}
@@ -59,27 +61,44 @@ module _ (m : State) (c b : ℕ) (apart : c ≢ b) where
   make_same call (Destroys asked) = refl
   make_same call (Acts act) = refl
 
-  stepped_same : (call : InFlight) (w : Word) (o : ℕ) (r : Option Errno) → IsSameAt b m (stepped m c call w o r)
-  stepped_same call Reserve o r = unless_refused_same _ r (slice_get-at_place_elsewhere m.calls c b _ apart)
-  stepped_same call Make o r = unless_refused_same _ r (make_same call (role_of call.request))
-  stepped_same call Commit o r = unless_refused_same _ r (slice_get-at_place_elsewhere m.calls c b _ apart)
-  stepped_same call Lock o r = unless_refused_same _ r (slice_get-at_place_elsewhere m.calls c b _ apart)
-  stepped_same call Check o r = unless_refused_same _ r (slice_get-at_place_elsewhere m.calls c b _ apart)
-  stepped_same call Finish o r = unless_refused_same _ r (slice_get-at_place_elsewhere _ c b _ apart ∙ ap (λ calls. slice_get calls b) (calls_buried m (object_with m o)))
-  stepped_same call Abort o r = unless_refused_same _ r (slice_get-at_place_elsewhere m.calls c b _ apart)
-  stepped_same call Exit o r = slice_get-at_place_elsewhere m.calls c b _ apart
+  act_same : (call : InFlight) (a : Answer) (what : request.Act) → IsSameAt b m (act m c call a what)
+  act_same call a (Modify to attrs) = slice_get-at_place_elsewhere m.calls c b _ apart
+  act_same call a Query = slice_get-at_place_elsewhere m.calls c b _ apart
+  act_same call a (Bind offset length access) = slice_get-at_place_elsewhere m.calls c b _ apart
+  act_same call a (Unbind offset length access) = slice_get-at_place_elsewhere m.calls c b _ apart
+  act_same call a Async = slice_get-at_place_elsewhere m.calls c b _ apart
+
+  act_by_same : (call : InFlight) (a : Answer) (role : Role) → IsSameAt b m (act_by m c call a role)
+  act_by_same call a (Creates kind) = refl
+  act_by_same call a (Destroys asked) = refl
+  act_by_same call a (Acts what) = act_same call a what
+
+  stepped_same : (call : InFlight) (w : Word) (o : ℕ) (a : Answer) → IsSameAt b m (stepped m c call w o a)
+  stepped_same call Reserve o a = unless_refused_same _ (refusal_in a) (slice_get-at_place_elsewhere m.calls c b _ apart)
+  stepped_same call Look o a = unless_refused_same _ (refusal_in a) (slice_get-at_place_elsewhere m.calls c b _ apart)
+  stepped_same call Make o a = unless_refused_same _ (refusal_in a) (make_same call (role_of call.request))
+  stepped_same call Commit o a = unless_refused_same _ (refusal_in a) (slice_get-at_place_elsewhere m.calls c b _ apart)
+  stepped_same call Act o a = unless_refused_same _ (refusal_in a) (act_by_same call a (role_of call.request))
+  stepped_same call Lock o a = unless_refused_same _ (refusal_in a) (slice_get-at_place_elsewhere m.calls c b _ apart)
+  stepped_same call Check o a = unless_refused_same _ (refusal_in a) (slice_get-at_place_elsewhere m.calls c b _ apart)
+  stepped_same call Finish o a = unless_refused_same _ (refusal_in a) (slice_get-at_place_elsewhere _ c b _ apart ∙ ap (λ calls. slice_get calls b) (calls_buried m (object_with m o)))
+  stepped_same call Abort o a = unless_refused_same _ (refusal_in a) (slice_get-at_place_elsewhere m.calls c b _ apart)
+  stepped_same call Free o a = unless_refused_same _ (refusal_in a) (slice_get-at_place_elsewhere m.calls c b _ apart)
+  stepped_same call Exit o a = slice_get-at_place_elsewhere m.calls c b _ apart
 
   after_step_same : (slot : Option InFlight) (w : Word) (o : ℕ) (a : Answer) → IsSameAt b m (after_step m c slot w o a)
   after_step_same None w o a = refl
-  after_step_same (Some call) w o a = stepped_same call w o (refusal_in a)
+  after_step_same (Some call) w o a = stepped_same call w o a
 
 pub after_same : (m : State) (e : Entry) (b : ℕ) → is_of b e ≡ false → IsSameAt b m (after m e)
 after_same m (Open c f d a) b other = unless_answered_same b m _ (refusal_in a) refl
 after_same m (Enter c f request a) b other = unless_answered_same b m _ (refusal_in a) (slice_get-at_place_elsewhere m.calls c b _ (eqb-false c b other))
 after_same m (Step c w o found a) b other = after_step_same m c b (eqb-false c b other) (call_of m c) w o a
+after_same m (Unplug d) b other = refl
 after_same m (Tear f by) b other = refl
 after_same m (Kill o) b other = refl
 after_same m (Gone o kept) b other = ap (λ calls. slice_get calls b) (calls_gone m o (object_with m o))
+after_same m (Dissociated f) b other = refl
 after_same m (Closed f) b other = refl
 
 pub call_of-after : (m : State) (e : Entry) (b : ℕ) → is_of b e ≡ false → call_of (after m e) b ≡ call_of m b

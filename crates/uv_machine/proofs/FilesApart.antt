@@ -4,7 +4,7 @@ use Rattle.std.proofs.Common.{ap}
 use Rattle.std.proofs.lemmas.Bool.{eqb-false}
 use Rattle.uv_num.specs.declared.errno.Errno.{Errno}
 use Rattle.uv_machine.specs.declared.entry.Entry.{Entry}
-use Rattle.uv_machine.specs.declared.entry.Entry.TheVariants.{Open, Enter, Step, Tear, Kill, Gone, Closed}
+use Rattle.uv_machine.specs.declared.entry.Entry.TheVariants.{Open, Enter, Step, Unplug, Tear, Kill, Gone, Dissociated, Closed}
 use Rattle.uv_machine.specs.declared.file.File.{File}
 use Rattle.uv_machine.specs.declared.state.State.{State}
 use Rattle.uv_machine.specs.States.{phase_in, phase_of}
@@ -26,7 +26,9 @@ pub phase_of-apart : (m : State) (e : Entry) (g : ℕ) → moves g e ≡ false �
 phase_of-apart m (Open c f d a) g other = phase_of-unless m _ (refusal_in a) g (phase_of-with_file m f g _ (eqb-false f g other))
 phase_of-apart m (Enter c f request a) g other = phase_of-after m (Enter c f request a) g refl
 phase_of-apart m (Step c w o found a) g other = phase_of-after m (Step c w o found a) g refl
+phase_of-apart m (Unplug d) g other = phase_of-after m (Unplug d) g refl
 phase_of-apart m (Tear f by) g other = phase_of-with_file m f g _ (eqb-false f g other)
 phase_of-apart m (Kill o) g other = phase_of-after m (Kill o) g refl
 phase_of-apart m (Gone o kept) g other = phase_of-after m (Gone o kept) g refl
+phase_of-apart m (Dissociated f) g other = phase_of-with_file m f g _ (eqb-false f g other)
 phase_of-apart m (Closed f) g other = phase_of-with_file m f g _ (eqb-false f g other)

@@ -7,9 +7,7 @@ use Rattle.uv_machine.specs.declared.entry.Entry.{Entry}
 use Rattle.uv_machine.specs.declared.state.State.{State}
 use Rattle.uv_machine.specs.States.{start}
 use Rattle.uv_machine.specs.Histories.{Allowed, after, IsLegal, state_of, IsFirstBad}
-use Rattle.uv_machine.specs.Laws.{HasRoom}
 use Rattle.uv_machine.proofs.GoingOn.{state_from-snoc, IsLegalFrom-snoc}
-use Rattle.uv_machine.proofs.Numbers.{makes_with_room}
 
 -- the first entries are legal, and lead to this state
 pub record IsJudged (h : List Entry) (n : ℕ) (m : State) : Type 0 where
@@ -23,11 +21,6 @@ module _ (h : List Entry) (n : ℕ) (d : Entry) (m : State) (within : n < length
   -- what the machine allows behind the entries so far
   allowed_there : Allowed m (slice_index_or h n d) → Allowed (state_of (take n h)) (slice_index_or h n d)
   allowed_there allowed = subst (λ s. Allowed s (slice_index_or h n d)) judged.state allowed
-
-  pub HasRoom-judged : Allowed m (slice_index_or h n d) → HasRoom m (slice_index_or h n d)
-  HasRoom-judged allowed =
-      subst (λ s. HasRoom s (slice_index_or h n d)) (sym judged.state)
-      (makes_with_room (take n h) (slice_index_or h n d) judged.legal (allowed_there allowed))
 
   pub IsJudged-next : (m' : State) → Allowed m (slice_index_or h n d) → m' ≡ after m (slice_index_or h n d) → IsJudged h (n + 1) m'
   IsJudged-next m' allowed e =

@@ -1,42 +1,48 @@
 -- In a state that a legal history leads to, each handle number of a file is one object's or set aside for one call at most.
 -- So an accepted Make finds room in a list of as many objects as there are handles.
-use Rattle.std.proofs.Common.{◌≡◌, ℕ, zero, suc, ◌+◌, ◌*◌, ◌/◌, ◌%◌, ◌<◌, ◌≤◌, Bool, true, false, List, [], ◌∷◌, Option, Some, None, length, map, replicate, refl, ap, sym, ◌∙◌, subst, arith}
-use Rattle.std.specs.Prelude.{◌&&◌, ◌==◌, slice_get, filter, option_map, unwrap_or, is_some, is_none, count_by, if◌then◌else◌}
+use Rattle.std.proofs.Common.{◌≡◌, ℕ, zero, suc, ◌+◌, ◌*◌, ◌/◌, ◌%◌, ◌<◌, ◌≤◌, Bool, true, false, List, [], ◌∷◌, ◌++◌, Option, Some, None, length, map, replicate, refl, ap, sym, ◌∙◌, subst, arith, inl, inr}
+use Rattle.std.specs.Prelude.{◌&&◌, ◌==◌, nat_lt, slice_get, filter, option_map, unwrap_or, is_some, count_by, if◌then◌else◌}
 use Rattle.std.specs.List.{AllByRecursion, list_any}
-use Rattle.std.proofs.lemmas.Bool.{and_parts, and_from, or_parts, eqb-true, eq-eqb, and_right}
+use Rattle.std.proofs.lemmas.Bool.{and_parts, and_from, or_parts, eqb-true, eq-eqb, ne_eqb, and_right}
+use Rattle.std.proofs.lemmas.Option.{none-some, same_Some}
+use Rattle.std.proofs.lemmas.Bool.Decides.{nat_tests}
 use Rattle.std.proofs.lemmas.List.Sums.{sum_by_push}
 use Rattle.uv_num.specs.declared.errno.Errno.{Errno}
-use Rattle.uv_num.specs.declared.errno.Errno.TheVariants.{NoSpc}
 use Rattle.uv_num.specs.declared.kind.Kind.{Kind}
 use Rattle.uv_num.specs.declared.qp.QpState.{QpState}
+use Rattle.uv_num.specs.declared.request.Act as request
+use Rattle.uv_num.specs.declared.request.Act.TheVariants.{Modify, Query, Bind, Unbind, Async}
 use Rattle.uv_num.specs.declared.request.Request.{Request}
-use Rattle.uv_num.specs.declared.request.Role.{Role}
-use Rattle.uv_num.specs.declared.request.Role.TheVariants.{Creates, Destroys, Acts}
 use Rattle.uv_num.specs.declared.limits.TheConstants.{NONE, FILES, HANDLES, MOST_OBJECTS}
-use Rattle.uv_num.specs.Request.{role_of}
-use Rattle.uv_num.specs.Kind.{kind_place}
 use Rattle.uv_num.specs.Place.{at_place}
 use Rattle.uv_machine.specs.declared.state.TheConstants.{ACTOR_PLACES}
 use Rattle.uv_machine.specs.declared.entry.Word.{Word}
-use Rattle.uv_machine.specs.declared.entry.Word.TheVariants.{Reserve, Make, Commit, Lock, Check, Finish, Abort, Exit}
+use Rattle.uv_machine.specs.declared.entry.Word.TheVariants.{Reserve, Look, Make, Commit, Act, Lock, Check, Finish, Abort, Free, Exit}
 use Rattle.uv_machine.specs.declared.entry.Answer.{Answer}
 use Rattle.uv_machine.specs.declared.entry.Entry.{Entry}
-use Rattle.uv_machine.specs.declared.entry.Entry.TheVariants.{Open, Enter, Step, Tear, Kill, Gone, Closed}
+use Rattle.uv_machine.specs.declared.entry.Entry.TheVariants.{Open, Enter, Step, Unplug, Tear, Kill, Gone, Dissociated, Closed}
 use Rattle.uv_machine.specs.declared.object.Object.{Object}
 use Rattle.uv_machine.specs.declared.object.Change.{Change}
-use Rattle.uv_machine.specs.declared.object.Change.TheVariants.{ToLive, ToDoomed, ToHusk}
+use Rattle.uv_machine.specs.declared.object.Change.TheVariants.{ToLive, ToDoomed, ToHusk, ToBound}
 use Rattle.uv_machine.specs.declared.call.InFlight.{InFlight}
 use Rattle.uv_machine.specs.declared.state.State.{State}
-use Rattle.uv_machine.specs.Objects.{has_id, in_file, has_handle, is_doomed, changed, on_object}
-use Rattle.uv_machine.specs.Plans.{word_behind, next_word, next_place, is_number, reserves, with_refusal, with_number, with_made, with_lock, without_lock, without_number, moved_on, entered}
-use Rattle.uv_machine.specs.States.{call_of, object_with, home_cell, is_taken, least_from, least_free, start}
-use Rattle.uv_machine.specs.Steps.{told, refused_told, reserve_told, plain_told}
-use Rattle.uv_machine.specs.Effects.{refusal_in, with_call, make, make_at, new_object, made_outcome, generation_in, with_burial, without_object, buried_if_doomed, not_with_id, stepped, after_step, put_call, no_call, gone_from, not_in_file, unless_answered}
-use Rattle.uv_machine.specs.Histories.{Allowed, after, kept_in, state_from, state_of, IsLegalFrom, IsLegal}
-use Rattle.uv_machine.specs.Laws.{MakeHasRoom, HasRoom}
+use Rattle.uv_machine.specs.Objects.{has_id, in_file, has_handle, changed, on_object}
+use Rattle.uv_machine.specs.Plans.{own_object, acted_on, is_number, reserves, with_refusal, with_number, with_look, with_made, with_outcome, with_lock, without_lock, without_number, without_look, moved_on, entered}
+use Rattle.uv_machine.specs.States.{call_of, object_with, is_taken, least_from, least_free, start}
+use Rattle.uv_machine.specs.Effects.{refusal_in, made_outcome, binding_of, act, finish, with_room_for, not_with_id, put_call, no_call, gone_from, not_in_file, unless_answered}
+use Rattle.uv_machine.specs.Histories.{Allowed, after, state_from, state_of, IsLegalFrom, IsLegal}
+use Rattle.uv_machine.specs.Laws.{MakeHasRoom, HasRoom, LegalIsBounded}
+use Rattle.uv_machine.specs.Reached.{IsIn, Reached, count_of}
 use Rattle.uv_machine.proofs.Sums.{one, one_le, one_none, one_most, same_one, worth, sum_by-at_place_worth, sum_by-filter-le, sum_by-map-le, sum_by-item, each_item, each_at, each-at_place, each-map, each-filter, each-push, each-replicate, count_by-replicate-none, count_by-none, has_key, length_below, sum_by-le-each, each_weaken}
-use Rattle.uv_machine.proofs.Planned.{planned, InPlan, in_plan, never_aborts, make_behind_next}
-use Rattle.uv_machine.proofs.Stepping.{calls_count, IsStepOf, IsStepOf-allowed, call_stands, is_exit, refusal_told}
+use Rattle.uv_machine.proofs.Members.{list_any-none}
+use Rattle.uv_machine.proofs.Planned.{InPlan, in_plan, stands_in_plan, looks_few}
+use Rattle.uv_machine.proofs.Turns.{Turn, object_made, IsTurn, IsTurn-allowed}
+use Rattle.uv_machine.proofs.Turns.Turn.{Refuses, Reserves, Looks, Makes, Commits, Does, Locks, Checks, Finishes, Aborts, Frees, Leaves}
+use Rattle.uv_machine.proofs.OwnCall.{call_stands}
+use Rattle.uv_machine.proofs.Phased.{create_has}
+use Rattle.uv_machine.proofs.Apart.{calls_buried}
+use Rattle.uv_machine.proofs.Holding.{finish_objects}
+use Rattle.uv_machine.proofs.Reaching.{Reached-start, Reached-after, Reached-state_of}
 
 -- The invariant.
 
@@ -48,11 +54,10 @@ abbrev pub IsHandle : Option ℕ → Type 0
 IsHandle None = Unit {0}
 IsHandle (Some n) = n < HANDLES
 
--- a call's file and number are within their tables, and it has a number when it comes to make its object
+-- a call's file and number are within their tables
 pub record CallFits (call : InFlight) : Type 0 where
   pub on : call.file < FILES
   pub number : IsHandle call.reserved
-  pub ready : call.refusal ≡ None → planned (role_of call.request) call.place ≡ Make → is_some call.reserved ≡ true
 
 abbrev pub SlotFits : Option InFlight → Type 0
 SlotFits None = Unit {0}
@@ -65,6 +70,13 @@ pub record IsNumbered (objects : List Object) (calls : List (Option InFlight)) :
 
 abbrev pub Numbered : State → Type 0
 Numbered m = IsNumbered m.objects m.calls
+
+-- how many calls pass a test, once one has changed
+calls_count : (p : Option InFlight → Bool) (calls : List (Option InFlight)) (c : ℕ) (g : Option InFlight → Option InFlight) (call : InFlight) → slice_get calls c ≡ Some (Some call) → count_by p (at_place calls c g) + one (p (Some call)) ≡ count_by p calls + one (p (g (Some call)))
+calls_count p calls c g call stands =
+    let here : worth (λ s. one (p s)) (slice_get calls c) ≡ one (p (Some call)) = ap (worth (λ s. one (p s))) stands in
+    let there : worth (λ s. one (p s)) (option_map g (slice_get calls c)) ≡ one (p (g (Some call))) = ap (λ v. worth (λ s. one (p s)) (option_map g v)) stands in
+    omega (arith, sum_by-at_place_worth (λ s. one (p s)) g calls c, here, there)
 
 slot_is : (calls : List (Option InFlight)) (c : ℕ) (g : Option InFlight → Option InFlight) (call : InFlight) → slice_get calls c ≡ Some (Some call) → SlotFits (g (Some call)) → (x : Option InFlight) → slice_get calls c ≡ Some x → SlotFits (g x)
 slot_is calls c g call stands fits x is =
@@ -96,12 +108,14 @@ changed_handle : (b : Bool) (change : Change) (f n : ℕ) (x : Object) → has_h
 changed_handle true ToLive f n x = refl
 changed_handle true ToDoomed f n x = refl
 changed_handle true ToHusk f n x = refl
+changed_handle true (ToBound binding) f n x = refl
 changed_handle false change f n x = refl
 
 changed_place : (b : Bool) (change : Change) (x : Object) → HasPlace x → HasPlace (if b then changed change x else x)
 changed_place true ToLive x has = has
 changed_place true ToDoomed x has = has
 changed_place true ToHusk x has = has
+changed_place true (ToBound binding) x has = has
 changed_place false change x has = has
 
 pub numbered_change : (o : ℕ) (change : Change) (objects : List Object) (calls : List (Option InFlight)) → IsNumbered objects calls → IsNumbered (map (on_object o change) objects) calls
@@ -110,24 +124,7 @@ numbered_change o change objects calls numbered =
     (λ f n. sum_by-map-le (λ x. one (has_handle f n x)) (on_object o change) objects (each_item _ (λ x. same_one (has_handle f n (on_object o change x)) (has_handle f n x) (changed_handle (has_id o x) change f n x)) objects))
     (each-map HasPlace (on_object o change) objects (λ x has. changed_place (has_id o x) change x has) numbered.places)
 
--- Steps.
-
-abbrev pub is_reserve : Word → Bool
-is_reserve Reserve = true
-is_reserve Make = false
-is_reserve Commit = false
-is_reserve Lock = false
-is_reserve Check = false
-is_reserve Finish = false
-is_reserve Abort = false
-is_reserve Exit = false
-
--- behind any word but Reserve comes no Make
-no_make : (call : InFlight) (w : Word) → InPlan call w → is_reserve w ≡ false → planned (role_of call.request) (next_place call.place) ≡ Make → ⊥
-no_make call w plan other make =
-    let behind = make_behind_next (role_of call.request) call.place make in
-    let yes : is_reserve w ≡ true = ap is_reserve (sym plan.planned ∙ behind) in
-    absurd cc
+-- Turns.
 
 -- a number is set aside for a call
 
@@ -158,26 +155,16 @@ reserve_some m c call k numbered stands is f n true same =
 reserve_some m c call k numbered stands is f n false other =
     omega (arith, numbered.once f n, calls_count (reserves f n) m.calls c (option_map (with_number (Some k))) call stands, one_none ((call.file == f) && (k == n)) other)
 
-reserve_once : (m : State) (c : ℕ) (call : InFlight) (number : Option ℕ) → Numbered m → slice_get m.calls c ≡ Some (Some call) → least_free m call.file ≡ number → (f n : ℕ) → count_by (has_handle f n) m.objects + count_by (reserves f n) (at_place m.calls c (option_map (with_number number))) ≤ 1
-reserve_once m c call None numbered stands is f n =
-    let none = one_none ((call.file == f) && false) (and_right (call.file == f) false refl) in
-    omega (arith, numbered.once f n, calls_count (reserves f n) m.calls c (option_map (with_number None)) call stands, none)
-reserve_once m c call (Some k) numbered stands is f n = reserve_some m c call k numbered stands is f n ((call.file == f) && (k == n)) refl
-
 reserved_fits : (number : Option ℕ) (m : State) (f : ℕ) → least_free m f ≡ number → IsHandle number
 reserved_fits None m f is = tt
 reserved_fits (Some k) m f is = let free = least_from_free (is_taken m f) 0 HANDLES k is in omega (arith, free.1)
 
-number_found : (number : Option ℕ) → (if is_none number then refused_told NoSpc else plain_told).refusal ≡ None → is_some number ≡ true
-number_found None e = absurd cc
-number_found (Some k) e = refl
-
-reserve_numbered : (m : State) (c : ℕ) (call : InFlight) → Numbered m → slice_get m.calls c ≡ Some (Some call) → CallFits call → (reserve_told m call.file).refusal ≡ None → Numbered (with_call m c (with_number (least_free m call.file)))
-reserve_numbered m c call numbered stands fits fine =
-    let g = with_number (least_free m call.file) in
-    let new : CallFits (g call) = record { on = fits.on; number = reserved_fits (least_free m call.file) m call.file refl; ready = λ _ _. number_found (least_free m call.file) fine } in
+reserve_numbered : (m : State) (c : ℕ) (call : InFlight) (k : ℕ) → Numbered m → slice_get m.calls c ≡ Some (Some call) → CallFits call → least_free m call.file ≡ Some k → IsNumbered m.objects (at_place m.calls c (option_map (with_number (Some k))))
+reserve_numbered m c call k numbered stands fits free =
+    let g = with_number (Some k) in
+    let new : CallFits (with_number (Some k) call) = record { on = fits.on; number = reserved_fits (Some k) m call.file free } in
     record {
-      once = reserve_once m c call (least_free m call.file) numbered stands refl;
+      once = λ f n. reserve_some m c call k numbered stands free f n ((call.file == f) && (k == n)) refl;
       places = numbered.places;
       slots = each-at_place SlotFits (option_map g) m.calls c (slot_is m.calls c (option_map g) call stands new) numbered.slots;
     }
@@ -191,152 +178,6 @@ made_handle (Some k) n e = refl
 made_place : (v : Option ℕ) → is_some v ≡ true → IsHandle v → unwrap_or v NONE < HANDLES
 made_place None e below = cc
 made_place (Some k) e below = below
-
-make_numbered : (m : State) (c : ℕ) (call : InFlight) (kind : Kind) (cell : Option ℕ) → Numbered m → slice_get m.calls c ≡ Some (Some call) → CallFits call → InPlan call Make → Numbered (make_at m c call kind cell)
-make_numbered m c call kind None numbered stands fits plan = numbered
-make_numbered m c call kind (Some index) numbered stands fits plan =
-    let x = new_object m call kind index (generation_in index (slice_get m.pools (kind_place kind))) in
-    let g = with_made x.id (made_outcome x) in
-    let ready = fits.ready plan.fine plan.planned in
-    let new : CallFits (g call) = record { on = fits.on; number = tt; ready = λ _ make. absurd (no_make call Make plan refl make) } in
-    record {
-      once = λ f n.
-          let none = one_none ((call.file == f) && false) (and_right (call.file == f) false refl) in
-          let moved = ap (λ v. one ((call.file == f) && v)) (made_handle call.reserved n ready) in
-          omega (arith, numbered.once f n, calls_count (reserves f n) m.calls c (option_map g) call stands, none, moved, sum_by_push (λ y. one (has_handle f n y)) m.objects x);
-      places = each-push HasPlace m.objects x numbered.places (fits.on, made_place call.reserved ready fits.number);
-      slots = each-at_place SlotFits (option_map g) m.calls c (slot_is m.calls c (option_map g) call stands new) numbered.slots;
-    }
-
-makes_numbered : (m : State) (c : ℕ) (call : InFlight) (r : Role) → Numbered m → slice_get m.calls c ≡ Some (Some call) → CallFits call → InPlan call Make → Numbered (make m c call r)
-makes_numbered m c call (Creates kind) numbered stands fits plan = make_numbered m c call kind (home_cell m kind) numbered stands fits plan
-makes_numbered m c call (Destroys asked) numbered stands fits plan = numbered
-makes_numbered m c call (Acts act) numbered stands fits plan = numbered
-
-refusal_numbered : (m : State) (c : ℕ) (call : InFlight) (e : Errno) → Numbered m → slice_get m.calls c ≡ Some (Some call) → CallFits call → Numbered (with_call m c (with_refusal e))
-refusal_numbered m c call e numbered stands fits =
-    let new : CallFits (with_refusal e call) = record { on = fits.on; number = fits.number; ready = λ fine _. absurd cc } in
-    numbered_call m.objects m.calls c (option_map (with_refusal e)) call numbered stands (λ f n is. is) new
-
-unlocked_fits : (call : InFlight) (w : Word) → CallFits call → InPlan call w → is_reserve w ≡ false → CallFits (without_lock call)
-unlocked_fits call w fits plan other = record { on = fits.on; number = fits.number; ready = λ _ make. absurd (no_make call w plan other make) }
-
-locked_fits : (call : InFlight) (o : ℕ) (w : Word) → CallFits call → InPlan call w → is_reserve w ≡ false → CallFits (with_lock o call)
-locked_fits call o w fits plan other = record { on = fits.on; number = fits.number; ready = λ _ make. absurd (no_make call w plan other make) }
-
-moved_fits : (call : InFlight) (w : Word) → CallFits call → InPlan call w → is_reserve w ≡ false → CallFits (moved_on call)
-moved_fits call w fits plan other = record { on = fits.on; number = fits.number; ready = λ _ make. absurd (no_make call w plan other make) }
-
-abort_no_make : (call : InFlight) (r : Option Errno) → call.refusal ≡ r → word_behind call r ≡ Abort → call.refusal ≡ None → ⊥
-abort_no_make call None is word fine = never_aborts (role_of call.request) call.place word
-abort_no_make call (Some e) is word fine = absurd cc
-
-aborted_fits : (call : InFlight) → CallFits call → word_behind call call.refusal ≡ Abort → CallFits (without_number call)
-aborted_fits call fits word = record { on = fits.on; number = tt; ready = λ fine _. absurd (abort_no_make call call.refusal refl word fine) }
-
-unnumbered : (call : InFlight) (f n : ℕ) → reserves f n (Some (without_number call)) ≡ true → reserves f n (Some call) ≡ true
-unnumbered call f n is = let parts = and_parts (call.file == f) false is in absurd cc
-
-ended : (call : InFlight) (f n : ℕ) → reserves f n (no_call (Some call)) ≡ true → reserves f n (Some call) ≡ true
-ended call f n is = absurd cc
-
-finish_numbered : (m : State) (c o : ℕ) (call : InFlight) (slot : Option Object) → Numbered m → slice_get m.calls c ≡ Some (Some call) → CallFits call → InPlan call Finish → Numbered (with_call (without_object (buried_if_doomed m slot) o) c without_lock)
-finish_numbered m c o call slot numbered stands fits plan =
-    let fine : IsNumbered (filter (not_with_id o) m.objects) (at_place m.calls c (option_map without_lock)) =
-    numbered_call (filter (not_with_id o) m.objects) m.calls c (option_map without_lock) call (numbered_filter (not_with_id o) m.objects m.calls numbered) stands (λ f n is. is) (unlocked_fits call Finish fits plan refl) in
-    elim slot as (λ v. Numbered (with_call (without_object (buried_if_doomed m v) o) c without_lock)) [
-      | None ↦ fine
-      | Some x ↦ elim (is_doomed x.phase) as (λ b. Numbered (with_call (without_object (if b then with_burial m x else m) o) c without_lock)) [ true ↦ fine | false ↦ fine ]
-    ]
-
--- each step of a call keeps numbers apart
-step_numbered : (m : State) (c : ℕ) (call : InFlight) (w : Word) (o : ℕ) (r : Option Errno) → Numbered m → slice_get m.calls c ≡ Some (Some call) → CallFits call → w ≡ next_word call → (is_exit w ≡ false → r ≡ (told m c call w).refusal) → Numbered (stepped m c call w o r)
-step_numbered m c call Reserve o None numbered stands fits word tells = reserve_numbered m c call numbered stands fits (sym (tells refl))
-step_numbered m c call Reserve o (Some e) numbered stands fits word tells = refusal_numbered m c call e numbered stands fits
-step_numbered m c call Make o None numbered stands fits word tells = makes_numbered m c call (role_of call.request) numbered stands fits (in_plan call Make word refl)
-step_numbered m c call Make o (Some e) numbered stands fits word tells = refusal_numbered m c call e numbered stands fits
-step_numbered m c call Commit o None numbered stands fits word tells =
-    numbered_call (map (on_object o ToLive) m.objects) m.calls c (option_map without_lock) call (numbered_change o ToLive m.objects m.calls numbered) stands (λ f n is. is) (unlocked_fits call Commit fits (in_plan call Commit word refl) refl)
-step_numbered m c call Commit o (Some e) numbered stands fits word tells = refusal_numbered m c call e numbered stands fits
-step_numbered m c call Lock o None numbered stands fits word tells =
-    numbered_call m.objects m.calls c (option_map (with_lock o)) call numbered stands (λ f n is. is) (locked_fits call o Lock fits (in_plan call Lock word refl) refl)
-step_numbered m c call Lock o (Some e) numbered stands fits word tells = refusal_numbered m c call e numbered stands fits
-step_numbered m c call Check o None numbered stands fits word tells =
-    numbered_call (map (on_object o ToDoomed) m.objects) m.calls c (option_map moved_on) call (numbered_change o ToDoomed m.objects m.calls numbered) stands (λ f n is. is) (moved_fits call Check fits (in_plan call Check word refl) refl)
-step_numbered m c call Check o (Some e) numbered stands fits word tells = refusal_numbered m c call e numbered stands fits
-step_numbered m c call Finish o None numbered stands fits word tells = finish_numbered m c o call (object_with m o) numbered stands fits (in_plan call Finish word refl)
-step_numbered m c call Finish o (Some e) numbered stands fits word tells = refusal_numbered m c call e numbered stands fits
-step_numbered m c call Abort o None numbered stands fits word tells =
-    numbered_call m.objects m.calls c (option_map without_number) call numbered stands (unnumbered call) (aborted_fits call fits (sym word))
-step_numbered m c call Abort o (Some e) numbered stands fits word tells = refusal_numbered m c call e numbered stands fits
-step_numbered m c call Exit o r numbered stands fits word tells = numbered_call m.objects m.calls c no_call call numbered stands (ended call) tt
-
-steps_numbered : (m : State) (c : ℕ) (w : Word) (o : ℕ) (found : Option QpState) (a : Answer) → IsStepOf m c (call_of m c) w o a → Numbered m → Numbered (after_step m c (call_of m c) w o a)
-steps_numbered m c w o found a s numbered =
-    let P : Option InFlight → Type 0 = λ slot. Numbered (after_step m c slot w o a) in
-    let stands = call_stands m c s.call s.is in
-    let tells : is_exit w ≡ false → refusal_in a ≡ (told m c s.call w).refusal =
-    λ not_exit. ap refusal_in (sym s.answer) ∙ refusal_told m s.call (kept_in a) w (told m c s.call w).refusal not_exit in
-    subst P (sym s.is) (step_numbered m c s.call w o (refusal_in a) numbered stands (each_at SlotFits m.calls c (Some s.call) stands numbered.slots) (sym s.word) tells)
-
--- The other entries.
-
-early_word : (r : Role) → planned r 0 ≡ Make → ⊥
-early_word (Creates kind) e = absurd cc
-early_word (Destroys asked) e = absurd cc
-early_word (Acts act) e = absurd cc
-
-entered_fits : (f : ℕ) (request : Request) → f < FILES → CallFits (entered f request)
-entered_fits f request within = record { on = within; number = tt; ready = λ _ make. absurd (early_word (role_of request) make) }
-
--- a call that sets nothing aside stands where none stood before
-numbered_put : (objects : List Object) (calls : List (Option InFlight)) (c f : ℕ) (request : Request) → IsNumbered objects calls → f < FILES → IsNumbered objects (at_place calls c (put_call (entered f request)))
-numbered_put objects calls c f request numbered within =
-    let call = entered f request in
-    record {
-      once = λ g n.
-          let none : (slot : Option (Option InFlight)) → worth (λ s. one (reserves g n s)) (option_map (put_call call) slot) ≤ 0 = λ slot. elim slot as (λ v. worth (λ s. one (reserves g n s)) (option_map (put_call call) v) ≤ 0) [ None ↦ omega arith | Some inner ↦ (let zero_is = one_none ((f == g) && false) (and_right (f == g) false refl) in omega (arith, zero_is)) ] in
-          omega (arith, numbered.once g n, sum_by-at_place_worth (λ s. one (reserves g n s)) (put_call call) calls c, none (slice_get calls c));
-      places = numbered.places;
-      slots = each-at_place SlotFits (put_call call) calls c (λ x is. entered_fits f request within) numbered.slots;
-    }
-
-unless_answered_numbered : (m n : State) (r : Option Errno) → Numbered m → Numbered n → Numbered (unless_answered m r n)
-unless_answered_numbered m n None before later = later
-unless_answered_numbered m n (Some e) before later = before
-
-gone_numbered : (m : State) (o : ℕ) (slot : Option Object) → Numbered m → Numbered (gone_from m o slot)
-gone_numbered m o None numbered = numbered
-gone_numbered m o (Some x) numbered = numbered_change o ToHusk m.objects m.calls numbered
-
--- each allowed entry keeps numbers apart
-pub numbered_after : (m : State) (e : Entry) → Allowed m e → Numbered m → Numbered (after m e)
-numbered_after m (Open c f d a) allowed numbered = unless_answered_numbered m _ (refusal_in a) numbered numbered
-numbered_after m (Enter c f request a) allowed numbered = unless_answered_numbered m _ (refusal_in a) numbered (numbered_put m.objects m.calls c f request numbered allowed.1)
-numbered_after m (Step c w o found a) allowed numbered = steps_numbered m c w o found a (IsStepOf-allowed m c w o found a allowed) numbered
-numbered_after m (Tear f by) allowed numbered = numbered
-numbered_after m (Kill o) allowed numbered = numbered_change o ToDoomed m.objects m.calls numbered
-numbered_after m (Gone o kept) allowed numbered = gone_numbered m o (object_with m o) numbered
-numbered_after m (Closed f) allowed numbered = numbered_filter (not_in_file f) m.objects m.calls numbered
-
-pub numbered_empty : (places : ℕ) → IsNumbered [] (replicate places None)
-numbered_empty places = record {
-  once = λ f n. omega (arith, count_by-replicate-none (reserves f n) places None refl);
-  places = tt;
-  slots = each-replicate SlotFits places None tt;
-}
-
-pub numbered_start : Numbered start
-unfolding start
-numbered_start = numbered_empty ACTOR_PLACES
-
-numbered_from : (m : State) (h : List Entry) → IsLegalFrom m h → Numbered m → Numbered (state_from m h)
-numbered_from m [] legal numbered = numbered
-numbered_from m (e ∷ es) legal numbered = numbered_from (after m e) es legal.1 (numbered_after m e legal.0 numbered)
-
--- in a state that a legal history leads to, numbers stand apart
-pub legal_numbered : (h : List Entry) → IsLegal h → Numbered (state_of h)
-legal_numbered h legal = numbered_from start h legal numbered_start
 
 -- Room.
 
@@ -377,28 +218,230 @@ room_beside m c call (Some n) numbered stands on is some below =
     let none : count_by (has_key place_key (f * HANDLES + n)) m.objects ≡ 0 = omega (arith, numbered.once f n, own, value, counts) in
     length_below place_key MOST_OBJECTS (f * HANDLES + n) m.objects (each_weaken HasPlace _ key_within m.objects numbered.places) (key_once m.objects m.calls numbered) (omega arith) none
 
-make_room : (m : State) (c o : ℕ) (a : Answer) → Numbered m → IsStepOf m c (call_of m c) Make o a → length m.objects < MOST_OBJECTS
-make_room m c o a numbered s =
-    let stands = call_stands m c s.call s.is in
-    let fits = each_at SlotFits m.calls c (Some s.call) stands numbered.slots in
-    let plan = in_plan s.call Make (sym s.word) refl in
-    room_beside m c s.call s.call.reserved numbered stands fits.on refl (fits.ready plan.fine plan.planned) fits.number
+-- Turns go on.
 
-has_room : (m : State) (e : Entry) → Numbered m → Allowed m e → HasRoom m e
-has_room m (Open c f d a) numbered allowed makes = cc
-has_room m (Enter c f request a) numbered allowed makes = cc
-has_room m (Step c Reserve o found a) numbered allowed makes = cc
-has_room m (Step c Make o found a) numbered allowed makes = make_room m c o a numbered (IsStepOf-allowed m c Make o found a allowed)
-has_room m (Step c Commit o found a) numbered allowed makes = cc
-has_room m (Step c Lock o found a) numbered allowed makes = cc
-has_room m (Step c Check o found a) numbered allowed makes = cc
-has_room m (Step c Finish o found a) numbered allowed makes = cc
-has_room m (Step c Abort o found a) numbered allowed makes = cc
-has_room m (Step c Exit o found a) numbered allowed makes = cc
-has_room m (Tear f by) numbered allowed makes = cc
-has_room m (Kill o) numbered allowed makes = cc
-has_room m (Gone o kept) numbered allowed makes = cc
-has_room m (Closed f) numbered allowed makes = cc
+lt_true : (a b : ℕ) → a < b → nat_lt a b ≡ true
+lt_true a b h = grind (arith, nat_tests)
+
+-- the number of a call that is about to make its object
+made_number : (v : Option ℕ) → count_of v ≡ 1 → is_some v ≡ true
+made_number None e = absurd cc
+made_number (Some k) e = refl
+
+pub has_number : (m : State) (c : ℕ) (call : InFlight) → Reached m → call_of m c ≡ Some call → InPlan call Make → is_some call.reserved ≡ true
+has_number m c call r is plan =
+    let s = stands_in_plan call Make plan in
+    let has = (create_has call s.kind (r.phased c call is) plan.fine s.creates).looking (omega (arith, s.at)) (omega (arith, s.at)) in
+    made_number call.reserved has.numbers_are
+
+pub room_is : (x : Object) (objects : List Object) → length objects < MOST_OBJECTS → with_room_for x objects ≡ objects ++ x ∷ []
+room_is x objects less =
+    let yes : nat_lt (length objects) MOST_OBJECTS ≡ true = lt_true (length objects) MOST_OBJECTS less in
+    ap (λ b. if b then objects ++ x ∷ [] else objects) yes
+
+make_numbered : (m : State) (c : ℕ) (call : InFlight) (kind : Kind) (index : ℕ) → Numbered m → slice_get m.calls c ≡ Some (Some call) → CallFits call → is_some call.reserved ≡ true → IsNumbered (with_room_for (object_made m call kind index) m.objects) (at_place m.calls c (option_map (with_made m.made (made_outcome (object_made m call kind index)))))
+make_numbered m c call kind index numbered stands fits ready =
+    let x = object_made m call kind index in
+    let g = with_made m.made (made_outcome x) in
+    let new : CallFits (g call) = record { on = fits.on; number = tt } in
+    let less = room_beside m c call call.reserved numbered stands fits.on refl ready fits.number in
+    let P : List Object → Type 0 = λ v. IsNumbered v (at_place m.calls c (option_map g)) in
+    subst P (sym (room_is x m.objects less)) (record {
+      once = λ f n.
+          let none = one_none ((call.file == f) && false) (and_right (call.file == f) false refl) in
+          let moved = ap (λ v. one ((call.file == f) && v)) (made_handle call.reserved n ready) in
+          omega (arith, numbered.once f n, calls_count (reserves f n) m.calls c (option_map g) call stands, none, moved, sum_by_push (λ y. one (has_handle f n y)) m.objects x);
+      places = each-push HasPlace m.objects x numbered.places (fits.on, made_place call.reserved ready fits.number);
+      slots = each-at_place SlotFits (option_map g) m.calls c (slot_is m.calls c (option_map g) call stands new) numbered.slots;
+    })
+
+numbered_as : (m' n : State) → m' ≡ n → Numbered n → Numbered m'
+numbered_as m' n e h = let P : State → Type 0 = λ s. Numbered s in subst P (sym e) h
+
+unnumbered : (call : InFlight) (f n : ℕ) → reserves f n (Some (without_number call)) ≡ true → reserves f n (Some call) ≡ true
+unnumbered call f n is = let parts = and_parts (call.file == f) false is in absurd cc
+
+ended : (call : InFlight) (f n : ℕ) → reserves f n (no_call (Some call)) ≡ true → reserves f n (Some call) ≡ true
+ended call f n is = absurd cc
+
+-- a turn that keeps the call's file and number
+same_numbered : (objects : List Object) (calls : List (Option InFlight)) (c : ℕ) (g : InFlight → InFlight) (call : InFlight) → IsNumbered objects calls → slice_get calls c ≡ Some (Some call) → CallFits call → (g call).file ≡ call.file → (g call).reserved ≡ call.reserved → IsNumbered objects (at_place calls c (option_map g))
+same_numbered objects calls c g call numbered stands fits file reserved =
+    numbered_call objects calls c (option_map g) call numbered stands
+    (λ f n is. (let same : reserves f n (Some (g call)) ≡ reserves f n (Some call) = ap (λ v. (v == f) && is_number n (g call).reserved) file ∙ ap (λ v. (call.file == f) && is_number n v) reserved in sym same ∙ is))
+    (record { on = rw file fits.on; number = rw reserved fits.number })
+
+act_numbered : (m : State) (c : ℕ) (call : InFlight) (a : Answer) (what : request.Act) → Numbered m → slice_get m.calls c ≡ Some (Some call) → CallFits call → Numbered (act m c call a what)
+act_numbered m c call a (Modify to attrs) numbered stands fits = same_numbered m.objects m.calls c (with_outcome a) call numbered stands fits refl refl
+act_numbered m c call a Query numbered stands fits = same_numbered m.objects m.calls c (with_outcome a) call numbered stands fits refl refl
+act_numbered m c call a (Bind offset long access) numbered stands fits =
+    let change = ToBound (Some (binding_of call offset long access)) in
+    same_numbered (map (on_object (acted_on call) change) m.objects) m.calls c (with_outcome a) call (numbered_change (acted_on call) change m.objects m.calls numbered) stands fits refl refl
+act_numbered m c call a (Unbind offset long access) numbered stands fits =
+    same_numbered (map (on_object (acted_on call) (ToBound None)) m.objects) m.calls c (with_outcome a) call (numbered_change (acted_on call) (ToBound None) m.objects m.calls numbered) stands fits refl refl
+act_numbered m c call a Async numbered stands fits = same_numbered m.objects m.calls c (with_outcome a) call numbered stands fits refl refl
+
+finish_numbered : (m : State) (c o : ℕ) (call : InFlight) → Numbered m → slice_get m.calls c ≡ Some (Some call) → CallFits call → Numbered (finish m c o)
+finish_numbered m c o call numbered stands fits =
+    let P : List Object → Type 0 = λ v. IsNumbered v (finish m c o).calls in
+    let Q : List (Option InFlight) → Type 0 = λ v. IsNumbered (filter (not_with_id o) m.objects) (at_place v c (option_map without_lock)) in
+    subst P (sym (finish_objects m c o))
+    (subst Q (sym (calls_buried m (object_with m o)))
+    (same_numbered (filter (not_with_id o) m.objects) m.calls c without_lock call (numbered_filter (not_with_id o) m.objects m.calls numbered) stands fits refl refl))
+
+numbered_by : (m : State) (c : ℕ) (call : InFlight) (a : Answer) (m' : State) → Reached m → call_of m c ≡ Some call → Numbered m → slice_get m.calls c ≡ Some (Some call) → CallFits call → Turn m c call a m' → Numbered m'
+numbered_by m c call a m' r is numbered stands fits (Refuses t) = numbered_as m' _ t.gives (same_numbered m.objects m.calls c (with_refusal t.errno) call numbered stands fits refl refl)
+numbered_by m c call a m' r is numbered stands fits (Reserves t) = numbered_as m' _ t.gives (reserve_numbered m c call t.number numbered stands fits t.free)
+numbered_by m c call a m' r is numbered stands fits (Looks t) = numbered_as m' _ t.gives (same_numbered m.objects m.calls c (with_look _) call numbered stands fits refl refl)
+numbered_by m c call a m' r is numbered stands fits (Makes t) = numbered_as m' _ t.gives (make_numbered m c call t.kind t.index numbered stands fits (has_number m c call r is t.plan))
+numbered_by m c call a m' r is numbered stands fits (Commits t) =
+    numbered_as m' _ t.gives (same_numbered (map (on_object (own_object call) ToLive) m.objects) m.calls c without_lock call (numbered_change (own_object call) ToLive m.objects m.calls numbered) stands fits refl refl)
+numbered_by m c call a m' r is numbered stands fits (Does t) = numbered_as m' _ t.gives (act_numbered m c call a t.what numbered stands fits)
+numbered_by m c call a m' r is numbered stands fits (Locks t) = numbered_as m' _ t.gives (same_numbered m.objects m.calls c (with_lock t.item.id) call numbered stands fits refl refl)
+numbered_by m c call a m' r is numbered stands fits (Checks t) =
+    numbered_as m' _ t.gives (same_numbered (map (on_object (own_object call) ToDoomed) m.objects) m.calls c moved_on call (numbered_change (own_object call) ToDoomed m.objects m.calls numbered) stands fits refl refl)
+numbered_by m c call a m' r is numbered stands fits (Finishes t) = numbered_as m' _ t.gives (finish_numbered m c (own_object call) call numbered stands fits)
+numbered_by m c call a m' r is numbered stands fits (Aborts t) =
+    numbered_as m' _ t.gives (numbered_call m.objects m.calls c (option_map without_number) call numbered stands (unnumbered call) (record { on = fits.on; number = tt }))
+numbered_by m c call a m' r is numbered stands fits (Frees t) = numbered_as m' _ t.gives (same_numbered m.objects m.calls c without_look call numbered stands fits refl refl)
+numbered_by m c call a m' r is numbered stands fits (Leaves t) = numbered_as m' _ t.gives (numbered_call m.objects m.calls c no_call call numbered stands (ended call) tt)
+
+turn_numbered : (m : State) (c : ℕ) (call : InFlight) (a : Answer) (m' : State) → Reached m → call_of m c ≡ Some call → Numbered m → Turn m c call a m' → Numbered m'
+turn_numbered m c call a m' r is numbered t =
+    let stands = call_stands m c call is in
+    numbered_by m c call a m' r is numbered stands (each_at SlotFits m.calls c (Some call) stands numbered.slots) t
+
+-- The other entries.
+
+entered_fits : (f : ℕ) (request : Request) → f < FILES → CallFits (entered f request)
+entered_fits f request within = record { on = within; number = tt }
+
+-- a call that sets nothing aside stands where none stood before
+numbered_put : (objects : List Object) (calls : List (Option InFlight)) (c f : ℕ) (request : Request) → IsNumbered objects calls → f < FILES → IsNumbered objects (at_place calls c (put_call (entered f request)))
+numbered_put objects calls c f request numbered within =
+    let call = entered f request in
+    record {
+      once = λ g n.
+          let none : (slot : Option (Option InFlight)) → worth (λ s. one (reserves g n s)) (option_map (put_call call) slot) ≤ 0 = λ slot. elim slot as (λ v. worth (λ s. one (reserves g n s)) (option_map (put_call call) v) ≤ 0) [ None ↦ omega arith | Some inner ↦ (let zero_is = one_none ((f == g) && false) (and_right (f == g) false refl) in omega (arith, zero_is)) ] in
+          omega (arith, numbered.once g n, sum_by-at_place_worth (λ s. one (reserves g n s)) (put_call call) calls c, none (slice_get calls c));
+      places = numbered.places;
+      slots = each-at_place SlotFits (put_call call) calls c (λ x is. entered_fits f request within) numbered.slots;
+    }
+
+unless_answered_numbered : (m n : State) (r : Option Errno) → Numbered m → Numbered n → Numbered (unless_answered m r n)
+unless_answered_numbered m n None before later = later
+unless_answered_numbered m n (Some e) before later = before
+
+gone_numbered : (m : State) (o : ℕ) (slot : Option Object) → Numbered m → Numbered (gone_from m o slot)
+gone_numbered m o None numbered = numbered
+gone_numbered m o (Some x) numbered = numbered_change o ToHusk m.objects m.calls numbered
+
+-- each allowed entry keeps numbers apart
+pub numbered_after : (m : State) (e : Entry) → Reached m → Allowed m e → Numbered m → Numbered (after m e)
+numbered_after m (Open c f d a) r allowed numbered = unless_answered_numbered m _ (refusal_in a) numbered numbered
+numbered_after m (Enter c f request a) r allowed numbered = unless_answered_numbered m _ (refusal_in a) numbered (numbered_put m.objects m.calls c f request numbered allowed.1)
+numbered_after m (Step c w o found a) r allowed numbered =
+    let t = IsTurn-allowed m c w o found a allowed in
+    turn_numbered m c t.call a (after m (Step c w o found a)) r t.is numbered t.turn
+numbered_after m (Unplug d) r allowed numbered = numbered
+numbered_after m (Tear f by) r allowed numbered = numbered
+numbered_after m (Kill o) r allowed numbered = numbered_change o ToDoomed m.objects m.calls numbered
+numbered_after m (Gone o kept) r allowed numbered = gone_numbered m o (object_with m o) numbered
+numbered_after m (Dissociated f) r allowed numbered = numbered
+numbered_after m (Closed f) r allowed numbered = numbered_filter (not_in_file f) m.objects m.calls numbered
+
+pub numbered_empty : (places : ℕ) → IsNumbered [] (replicate places None)
+numbered_empty places = record {
+  once = λ f n. omega (arith, count_by-replicate-none (reserves f n) places None refl);
+  places = tt;
+  slots = each-replicate SlotFits places None tt;
+}
+
+pub numbered_start : Numbered start
+unfolding start
+numbered_start = numbered_empty ACTOR_PLACES
+
+numbered_from : (m : State) (h : List Entry) → IsLegalFrom m h → Reached m → Numbered m → Numbered (state_from m h)
+numbered_from m [] legal r numbered = numbered
+numbered_from m (e ∷ es) legal r numbered = numbered_from (after m e) es legal.1 (Reached-after m e legal.0 r) (numbered_after m e r legal.0 numbered)
+
+-- in a state that a legal history leads to, numbers stand apart
+pub legal_numbered : (h : List Entry) → IsLegal h → Numbered (state_of h)
+legal_numbered h legal = numbered_from start h legal Reached-start numbered_start
+
+-- a call that is about to make its object finds room
+pub room_at : (m : State) (c : ℕ) (call : InFlight) → Reached m → Numbered m → call_of m c ≡ Some call → InPlan call Make → length m.objects < MOST_OBJECTS
+room_at m c call r numbered is plan =
+    let stands = call_stands m c call is in
+    let fits = each_at SlotFits m.calls c (Some call) stands numbered.slots in
+    room_beside m c call call.reserved numbered stands fits.on refl (has_number m c call r is plan) fits.number
+
+-- a step that makes an object is a Make
+turn_room : (m : State) (c : ℕ) (w : Word) (o : ℕ) (found : Option QpState) (a : Answer) (m' : State) → Reached m → Numbered m → IsTurn m c w o found a m' → w ≡ Make → length m.objects < MOST_OBJECTS
+turn_room m c w o found a m' r numbered t make = room_at m c t.call r numbered t.is (in_plan t.call Make (t.word ∙ make) refl)
+
+has_room : (m : State) (e : Entry) → Reached m → Numbered m → Allowed m e → HasRoom m e
+has_room m (Open c f d a) r numbered allowed makes = absurd cc
+has_room m (Enter c f request a) r numbered allowed makes = absurd cc
+has_room m (Step c Reserve o found a) r numbered allowed makes = absurd cc
+has_room m (Step c Look o found a) r numbered allowed makes = absurd cc
+has_room m (Step c Make o found a) r numbered allowed makes = turn_room m c Make o found a (after m (Step c Make o found a)) r numbered (IsTurn-allowed m c Make o found a allowed) refl
+has_room m (Step c Commit o found a) r numbered allowed makes = absurd cc
+has_room m (Step c Act o found a) r numbered allowed makes = absurd cc
+has_room m (Step c Lock o found a) r numbered allowed makes = absurd cc
+has_room m (Step c Check o found a) r numbered allowed makes = absurd cc
+has_room m (Step c Finish o found a) r numbered allowed makes = absurd cc
+has_room m (Step c Abort o found a) r numbered allowed makes = absurd cc
+has_room m (Step c Free o found a) r numbered allowed makes = absurd cc
+has_room m (Step c Exit o found a) r numbered allowed makes = absurd cc
+has_room m (Unplug d) r numbered allowed makes = absurd cc
+has_room m (Tear f by) r numbered allowed makes = absurd cc
+has_room m (Kill o) r numbered allowed makes = absurd cc
+has_room m (Gone o kept) r numbered allowed makes = absurd cc
+has_room m (Dissociated f) r numbered allowed makes = absurd cc
+has_room m (Closed f) r numbered allowed makes = absurd cc
 
 pub makes_with_room : MakeHasRoom
-makes_with_room h e legal allowed = has_room (state_of h) e (legal_numbered h legal) allowed
+makes_with_room h e legal allowed = has_room (state_of h) e (Reached-state_of h legal) (legal_numbered h legal) allowed
+
+-- What there is at most.
+
+below_at : (top : ℕ) (objects : List Object) (x : Object) → IsIn x objects → AllByRecursion (λ y. place_key y < top) objects → place_key x < top
+below_at top [] x k all = absurd k
+below_at top (y ∷ objects) x (inl e) all = let P : Object → Type 0 = λ v. place_key v < top in subst P (sym e) all.0
+below_at top (y ∷ objects) x (inr k) all = below_at top objects x k all.1
+
+-- no object has the key behind the last
+keyless : (top : ℕ) (objects : List Object) → AllByRecursion (λ x. place_key x < top) objects → count_by (has_key place_key top) objects ≡ 0
+keyless top objects below = count_by-none (has_key place_key top) objects (list_any-none (has_key place_key top) objects (λ x k. ne_eqb (place_key x) top (λ e. (let low = below_at top objects x k below in omega arith))))
+
+few_objects : (objects : List Object) (calls : List (Option InFlight)) → IsNumbered objects calls → length objects ≤ MOST_OBJECTS
+few_objects objects calls numbered =
+    let n = MOST_OBJECTS + 1 in
+    let below = each_weaken HasPlace (λ x. place_key x < n) (λ x has. omega (arith, key_within x has)) objects numbered.places in
+    let none : count_by (has_key place_key MOST_OBJECTS) objects ≡ 0 = keyless MOST_OBJECTS objects (each_weaken HasPlace _ key_within objects numbered.places) in
+    omega (arith, length_below place_key n MOST_OBJECTS objects below (key_once objects calls numbered) (omega arith) none)
+
+place_at : (objects : List Object) (x : Object) → IsIn x objects → AllByRecursion HasPlace objects → HasPlace x
+place_at [] x k all = absurd k
+place_at (y ∷ objects) x (inl e) all = let P : Object → Type 0 = λ v. HasPlace v in subst P (sym e) all.0
+place_at (y ∷ objects) x (inr k) all = place_at objects x k all.1
+
+handle_is : (number : Option ℕ) (n : ℕ) → number ≡ Some n → IsHandle number → n < HANDLES
+handle_is None n e below = absurd (none-some n e)
+handle_is (Some k) n e below = let P : ℕ → Type 0 = λ v. v < HANDLES in subst P (same_Some k n e) below
+
+pub legal_bounded : LegalIsBounded
+legal_bounded h legal =
+    let m = state_of h in
+    let r = Reached-state_of h legal in
+    let numbered = legal_numbered h legal in
+    record {
+      objects = few_objects m.objects m.calls numbered;
+      handles = λ x k. place_at m.objects x k numbered.places;
+      numbers = λ b n k is number. (
+          let fits = each_at SlotFits m.calls b (Some k) (call_stands m b k is) numbered.slots in
+          (fits.on, handle_is k.reserved n number fits.number));
+      looks = λ b k is. omega (arith, (r.phased b k is).looks, looks_few k.request);
+      once = numbered.once;
+    }

@@ -1,181 +1,168 @@
--- What a step leaves in its own call, and that fewer steps are ahead behind it.
-use Rattle.std.specs.Prelude.{ℕ, Bool, ◌≡◌, ◌<◌, ◌≤◌, ◌+◌, ◌-◌, ◌==◌, true, false, if◌then◌else◌, Option, None, Some, refl, slice_get, option_map}
-use Rattle.std.proofs.Common.{ap, sym, subst, ◌∙◌, arith}
-use Rattle.std.proofs.lemmas.Option.{none-some}
+-- What a turn leaves in its own call, and that fewer steps are ahead behind it.
+use Rattle.std.proofs.Common.{◌≡◌, ℕ, ◌+◌, ◌<◌, ◌≤◌, true, false, Option, Some, None, length, drop, refl, ap, ◌∙◌, arith}
+use Rattle.std.specs.Prelude.{◌||◌, slice_get, option_map, sum_by}
+use Rattle.std.specs.List.{list_any}
 use Rattle.uv_num.specs.declared.errno.Errno.{Errno}
-use Rattle.uv_num.specs.declared.errno.Errno.TheVariants.{NoSpc}
-use Rattle.uv_num.specs.declared.kind.Kind.{Kind}
-use Rattle.uv_num.specs.declared.limits.TheConstants.{NONE}
+use Rattle.uv_num.specs.declared.request.Act as request
+use Rattle.uv_num.specs.declared.request.Act.TheVariants.{Modify, Query, Bind, Unbind, Async}
 use Rattle.uv_num.specs.declared.qp.QpState.{QpState}
-use Rattle.uv_num.specs.declared.request.Role.{Role}
-use Rattle.uv_num.specs.declared.request.Role.TheVariants.{Creates, Destroys, Acts}
-use Rattle.uv_num.specs.Request.{role_of}
-use Rattle.uv_num.specs.Kind.{kind_place}
+use Rattle.uv_num.specs.Looks.{looks_of}
+use Rattle.uv_num.specs.Place.{at_place}
 use Rattle.uv_machine.specs.declared.entry.Word.{Word}
-use Rattle.uv_machine.specs.declared.entry.Word.TheVariants.{Reserve, Make, Commit, Lock, Check, Finish, Abort, Exit}
+use Rattle.uv_machine.specs.declared.entry.Word.TheVariants.{Reserve, Look, Make, Commit, Act, Lock, Check, Finish, Abort, Free, Exit}
 use Rattle.uv_machine.specs.declared.entry.Answer.{Answer}
 use Rattle.uv_machine.specs.declared.entry.Entry.TheVariants.{Step}
 use Rattle.uv_machine.specs.declared.call.InFlight.{InFlight}
-use Rattle.uv_machine.specs.declared.object.Object.{Object}
-use Rattle.uv_machine.specs.declared.object.Change.TheVariants.{ToLive, ToDoomed}
 use Rattle.uv_machine.specs.declared.state.State.{State}
-use Rattle.uv_machine.specs.Plans.{next_place, moved_on, with_refusal, with_number, with_made, with_lock, without_lock, without_number}
-use Rattle.uv_machine.specs.States.{the_call, call_of, object_with, home_cell, least_free}
-use Rattle.uv_machine.specs.Steps.{told, refused_told, make_of, cell_told, make_told, step_answer}
-use Rattle.uv_machine.specs.Effects.{refusal_in, with_call, no_call, left, unless_refused, with_object, without_object, made_outcome, with_new, new_object, generation_in, buried_if_doomed, make, make_at, stepped, after_step}
-use Rattle.uv_machine.specs.Histories.{Allowed, after, kept_in}
-use Rattle.uv_machine.specs.Accounts.{steps_back, steps_behind, steps_ahead}
+use Rattle.uv_machine.specs.Plans.{plan_for, closing, own_object, look_ask, moved_on, with_refusal, with_number, with_look, with_made, with_outcome, with_lock, without_lock, without_number, without_look}
+use Rattle.uv_machine.specs.States.{the_call, call_of, object_with}
+use Rattle.uv_machine.specs.Steps.{look_told}
+use Rattle.uv_machine.specs.Effects.{no_call, made_outcome, act}
+use Rattle.uv_machine.specs.Histories.{Allowed, after}
+use Rattle.uv_machine.specs.Accounts.{word_steps, is_make, abort_steps, free_steps, steps_back, steps_behind, steps_ahead}
 use Rattle.uv_num.proofs.PlaceLaws.{slice_get-at_place_same}
-use Rattle.uv_machine.proofs.Planned.{IsCreating, IsDestroying, IsUnwinding, StandsAt, StandsAt-next_word, next_place_below}
-use Rattle.uv_machine.proofs.Stepping.{IsStepOf-allowed}
+use Rattle.uv_machine.proofs.Planned.{InPlan, IsClosing, stands_in_plan, closing_abort, closing_free}
+use Rattle.uv_machine.proofs.Turns.{Turn, object_made, may_refuse, IsTurn, IsTurn-allowed}
+use Rattle.uv_machine.proofs.Turns.Turn.{Refuses, Reserves, Looks, Makes, Commits, Does, Locks, Checks, Finishes, Aborts, Frees, Leaves}
+use Rattle.uv_machine.proofs.Ahead.{IsAhead-in_plan, IsNextOf, words_behind, makes_behind_looks, steps_by, steps_in_plan, steps_then, closing_steps, length-ids_and, length-ids_behind, fewer_by, fewer_before_make, fewer_made, fewer_refused}
 use Rattle.uv_machine.proofs.Apart.{calls_buried}
 
--- what the refusal of a step's answer is; an exit may tell that of its call
-abbrev pub TellsRefusal : Word → Option Errno → Answer → Type 0
-TellsRefusal Reserve r a = refusal_in a ≡ r
-TellsRefusal Make r a = refusal_in a ≡ r
-TellsRefusal Commit r a = refusal_in a ≡ r
-TellsRefusal Lock r a = refusal_in a ≡ r
-TellsRefusal Check r a = refusal_in a ≡ r
-TellsRefusal Finish r a = refusal_in a ≡ r
-TellsRefusal Abort r a = refusal_in a ≡ r
-TellsRefusal Exit r a = Unit {0}
+-- What a turn leaves in the place of its call.
+pub data OwnTurn (call : InFlight) (slot : Option InFlight) : Type 0 where
+  OwnRefuses : (w : Word) (e : Errno) → InPlan call w → may_refuse w ≡ true → slot ≡ Some (with_refusal e call) → OwnTurn call slot
+  OwnReserves : (n : ℕ) → InPlan call Reserve → slot ≡ Some (with_number (Some n) call) → OwnTurn call slot
+  OwnLooks : (o : ℕ) → InPlan call Look → slot ≡ Some (with_look o call) → OwnTurn call slot
+  OwnMakes : (o : ℕ) (outcome : Answer) → InPlan call Make → slot ≡ Some (with_made o outcome call) → OwnTurn call slot
+  OwnCommits : InPlan call Commit → slot ≡ Some (without_lock call) → OwnTurn call slot
+  OwnDoes : (outcome : Answer) → InPlan call Act → slot ≡ Some (with_outcome outcome call) → OwnTurn call slot
+  OwnLocks : (o : ℕ) → InPlan call Lock → slot ≡ Some (with_lock o call) → OwnTurn call slot
+  OwnChecks : InPlan call Check → slot ≡ Some (moved_on call) → OwnTurn call slot
+  OwnFinishes : InPlan call Finish → slot ≡ Some (without_lock call) → OwnTurn call slot
+  OwnAborts : IsClosing call → closing call ≡ Abort → slot ≡ Some (without_number call) → OwnTurn call slot
+  OwnFrees : IsClosing call → closing call ≡ Free → slot ≡ Some (without_look call) → OwnTurn call slot
+  OwnLeaves : IsClosing call → closing call ≡ Exit → slot ≡ None → OwnTurn call slot
 
-tells : (m : State) (call : InFlight) (kept : ℕ) (w : Word) (r : Option Errno) → TellsRefusal w r (step_answer m call kept w r)
-tells m call kept Reserve None = refl
-tells m call kept Make None = refl
-tells m call kept Commit None = refl
-tells m call kept Lock None = refl
-tells m call kept Check None = refl
-tells m call kept Finish None = refl
-tells m call kept Abort None = refl
-tells m call kept Exit None = tt
-tells m call kept Reserve (Some e) = refl
-tells m call kept Make (Some e) = refl
-tells m call kept Commit (Some e) = refl
-tells m call kept Lock (Some e) = refl
-tells m call kept Check (Some e) = refl
-tells m call kept Finish (Some e) = refl
-tells m call kept Abort (Some e) = refl
-tells m call kept Exit (Some e) = tt
+-- the table of calls behind a turn
+pub record CallsTurn (m : State) (c : ℕ) (call : InFlight) (m' : State) : Type 0 where
+  pub change : Option InFlight → Option InFlight
+  pub calls : m'.calls ≡ at_place m.calls c change
+  pub own : OwnTurn call (change (Some call))
 
-pub tells_of : (m : State) (call : InFlight) (kept : ℕ) (w : Word) (r : Option Errno) (a : Answer) → step_answer m call kept w r ≡ a → TellsRefusal w r a
-tells_of m call kept w r a e = subst (λ b. TellsRefusal w r b) e (tells m call kept w r)
+pub act_calls : (m : State) (c : ℕ) (call : InFlight) (a : Answer) (what : request.Act) → (act m c call a what).calls ≡ at_place m.calls c (option_map (with_outcome a))
+act_calls m c call a (Modify to attrs) = refl
+act_calls m c call a Query = refl
+act_calls m c call a (Bind offset length access) = refl
+act_calls m c call a (Unbind offset length access) = refl
+act_calls m c call a Async = refl
 
-the_call-map : (g : InFlight → InFlight) (slot : Option (Option InFlight)) → the_call (option_map (option_map g) slot) ≡ option_map g (the_call slot)
-the_call-map g None = refl
-the_call-map g (Some slot) = refl
+abbrev pub calls_turn : (m : State) (c : ℕ) (call : InFlight) (a : Answer) (m' : State) → Turn m c call a m' → CallsTurn m c call m'
+calls_turn m c call a m' (Refuses k) = record { change = option_map (with_refusal k.errno); calls = ap (λ (s : State). s.calls) k.gives; own = OwnRefuses k.word k.errno k.plan k.may refl }
+calls_turn m c call a m' (Reserves k) = record { change = option_map (with_number (Some k.number)); calls = ap (λ (s : State). s.calls) k.gives; own = OwnReserves k.number k.plan refl }
+calls_turn m c call a m' (Looks k) =
+    let o = (look_told m call.file (look_ask call)).object in
+    record { change = option_map (with_look o); calls = ap (λ (s : State). s.calls) k.gives; own = OwnLooks o k.plan refl }
+calls_turn m c call a m' (Makes k) =
+    let x = object_made m call k.kind k.index in
+    record { change = option_map (with_made x.id (made_outcome x)); calls = ap (λ (s : State). s.calls) k.gives; own = OwnMakes x.id (made_outcome x) k.plan refl }
+calls_turn m c call a m' (Commits k) = record { change = option_map without_lock; calls = ap (λ (s : State). s.calls) k.gives; own = OwnCommits k.plan refl }
+calls_turn m c call a m' (Does k) = record { change = option_map (with_outcome a); calls = ap (λ (s : State). s.calls) k.gives ∙ act_calls m c call a k.what; own = OwnDoes a k.plan refl }
+calls_turn m c call a m' (Locks k) = record { change = option_map (with_lock k.item.id); calls = ap (λ (s : State). s.calls) k.gives; own = OwnLocks k.item.id k.plan refl }
+calls_turn m c call a m' (Checks k) = record { change = option_map moved_on; calls = ap (λ (s : State). s.calls) k.gives; own = OwnChecks k.plan refl }
+calls_turn m c call a m' (Finishes k) =
+    record {
+      change = option_map without_lock;
+      calls = ap (λ (s : State). s.calls) k.gives ∙ ap (λ calls. at_place calls c (option_map without_lock)) (calls_buried m (object_with m (own_object call)));
+      own = OwnFinishes k.plan refl;
+    }
+calls_turn m c call a m' (Aborts k) = record { change = option_map without_number; calls = ap (λ (s : State). s.calls) k.gives; own = OwnAborts k.ends k.word refl }
+calls_turn m c call a m' (Frees k) = record { change = option_map without_look; calls = ap (λ (s : State). s.calls) k.gives; own = OwnFrees k.ends k.word refl }
+calls_turn m c call a m' (Leaves k) = record { change = no_call; calls = ap (λ (s : State). s.calls) k.gives; own = OwnLeaves k.ends k.word refl }
 
-the_call-no_call : (slot : Option (Option InFlight)) → the_call (option_map no_call slot) ≡ None
-the_call-no_call None = refl
-the_call-no_call (Some slot) = refl
+slot_from : (slot : Option (Option InFlight)) (call : InFlight) → the_call slot ≡ Some call → slot ≡ Some (Some call)
+slot_from None call e = absurd cc
+slot_from (Some inner) call e = ap (λ (x : Option InFlight). Some x) e
 
-pub call_of-with_call : (m : State) (c : ℕ) (g : InFlight → InFlight) (call : InFlight) → call_of m c ≡ Some call → call_of (with_call m c g) c ≡ Some (g call)
-call_of-with_call m c g call is = ap the_call (slice_get-at_place_same m.calls c (option_map g)) ∙ the_call-map g (slice_get m.calls c) ∙ ap (option_map g) is
+-- a call in flight stands at its actor's place
+pub call_stands : (m : State) (c : ℕ) (call : InFlight) → call_of m c ≡ Some call → slice_get m.calls c ≡ Some (Some call)
+call_stands m c call e = slot_from (slice_get m.calls c) call e
 
-pub call_of-left : (m : State) (c : ℕ) → call_of (left m c) c ≡ None
-call_of-left m c = ap the_call (slice_get-at_place_same m.calls c no_call) ∙ the_call-no_call (slice_get m.calls c)
+-- the actor's call behind a change of its place
+pub call_of-changed : (m m' : State) (c : ℕ) (g : Option InFlight → Option InFlight) (call : InFlight) → m'.calls ≡ at_place m.calls c g → call_of m c ≡ Some call → call_of m' c ≡ g (Some call)
+call_of-changed m m' c g call calls is =
+    ap (λ v. the_call (slice_get v c)) calls
+    ∙ ap the_call (slice_get-at_place_same m.calls c g)
+    ∙ ap (λ v. the_call (option_map g v)) (call_stands m c call is)
 
-steps_back_most : (reserved : Option ℕ) → steps_back reserved ≤ 2
-steps_back_most None = omega arith
-steps_back_most (Some number) = omega arith
+-- The steps ahead.
 
-steps_back_least : (reserved : Option ℕ) → 1 ≤ steps_back reserved
-steps_back_least None = omega arith
-steps_back_least (Some number) = omega arith
+abbrev pub IsFewer : InFlight → Option InFlight → Type 0
+IsFewer call slot = steps_ahead slot < steps_behind call call.refusal
 
-steps_behind_least : (call : InFlight) (refusal : Option Errno) → 1 ≤ steps_behind call refusal
-steps_behind_least call None = omega arith
-steps_behind_least call (Some e) = steps_back_least call.reserved
+fewer_as : (call : InFlight) (slot slot' : Option InFlight) → slot ≡ slot' → IsFewer call slot' → IsFewer call slot
+fewer_as call slot slot' e f = rw e f
 
--- fewer steps are ahead of a slot than of a call
-abbrev pub IsFewer : Option InFlight → InFlight → Type 0
-IsFewer slot call = steps_ahead slot < steps_behind call call.refusal
+-- a step of the plan that makes nothing, and keeps the number
+fewer_plain : (call call' : InFlight) (w : Word) → InPlan call w → is_make w ≡ false → IsNextOf call call' → abort_steps call'.reserved ≡ abort_steps call.reserved → free_steps call' + 1 ≤ free_steps call + word_steps w → IsFewer call (Some call')
+fewer_plain call call' w plan makes next aborts frees =
+    let rest = drop (call.place + 1) (plan_for call.request) in
+    let ahead = IsAhead-in_plan call w plan in
+    let before = steps_in_plan call w rest plan.fine ahead.now ∙ ap (λ b. steps_by (b || list_any is_make rest) (word_steps w + sum_by word_steps rest) call) makes in
+    let behind = steps_then call' rest (next.refusal ∙ plan.fine) (words_behind call call' w rest ahead next) in
+    rw (before, behind) (fewer_by (list_any is_make rest) (word_steps w) (sum_by word_steps rest) call call' aborts frees)
 
--- the steps behind a create or a destroy at a place
-ahead_creating : (call : InFlight) (n : ℕ) → IsCreating (role_of call.request) call.refusal call.place n → steps_behind call call.refusal ≡ 1 + (4 - (n + 1))
-ahead_creating call n s = rw (s.fine, s.creates, s.here)
+-- behind a Reserve a Make comes
+makes_behind_reserve : (call : InFlight) → InPlan call Reserve → list_any is_make (drop (call.place + 1) (plan_for call.request)) ≡ true
+makes_behind_reserve call plan =
+    let s = stands_in_plan call Reserve plan in
+    rw (s.creates, s.at) (makes_behind_looks (length (looks_of call.request)))
 
-ahead_destroying : (call : InFlight) (n : ℕ) → IsDestroying (role_of call.request) call.refusal call.place n → steps_behind call call.refusal ≡ 1 + (4 - (n + 1))
-ahead_destroying call n s = rw (s.fine, s.destroys, s.here)
+fewer_reserved : (call call' : InFlight) → InPlan call Reserve → IsNextOf call call' → free_steps call' ≡ free_steps call → IsFewer call (Some call')
+fewer_reserved call call' plan next frees =
+    let rest = drop (call.place + 1) (plan_for call.request) in
+    let ahead = IsAhead-in_plan call Reserve plan in
+    let makes : list_any is_make rest ≡ true = makes_behind_reserve call plan in
+    let before = steps_in_plan call Reserve rest plan.fine ahead.now ∙ ap (λ b. steps_by b (1 + sum_by word_steps rest) call) makes in
+    let behind = steps_then call' rest (next.refusal ∙ plan.fine) (words_behind call call' Reserve rest ahead next) ∙ ap (λ b. steps_by b (sum_by word_steps rest) call') makes in
+    rw (before, behind) (fewer_before_make 1 (sum_by word_steps rest) call call' (omega (arith, frees)))
 
-ahead_unwinding : (call : InFlight) → IsUnwinding call.refusal call.reserved → steps_behind call call.refusal ≡ 2
-ahead_unwinding call s = rw (s.refused, s.keeps)
+fewer_make : (call call' : InFlight) → InPlan call Make → IsNextOf call call' → abort_steps call'.reserved ≡ 0 → free_steps call' ≡ free_steps call → IsFewer call (Some call')
+fewer_make call call' plan next aborts frees =
+    let rest = drop (call.place + 1) (plan_for call.request) in
+    let ahead = IsAhead-in_plan call Make plan in
+    let before = steps_in_plan call Make rest plan.fine ahead.now in
+    let behind = steps_then call' rest (next.refusal ∙ plan.fine) (words_behind call call' Make rest ahead next) in
+    rw (before, behind) (fewer_made (list_any is_make rest) (sum_by word_steps rest) call call' aborts frees)
 
--- what an accepted Make finds
-pub record MakesIn (m : State) (kind : Kind) : Type 0 where
-  pub index : ℕ
-  pub home : home_cell m kind ≡ Some index
-  pub fresh : (m.made == NONE) ≡ false
+fewer_closing : (call call' : InFlight) → IsClosing call → IsClosing call' → steps_back call' < steps_back call → IsFewer call (Some call')
+fewer_closing call call' ends ends' less = rw (closing_steps call ends, closing_steps call' ends') less
 
-makes_by : (m : State) (kind : Kind) (full : Bool) (i : Option ℕ) → (m.made == NONE) ≡ full → home_cell m kind ≡ i → (if full then refused_told NoSpc else cell_told m i).refusal ≡ None → MakesIn m kind
-makes_by m kind true i f h e = absurd (none-some _ (sym e))
-makes_by m kind false None f h e = absurd (none-some _ (sym e))
-makes_by m kind false (Some index) f h e = record { index = index; home = h; fresh = f }
+pub fewer_own : (call : InFlight) (slot : Option InFlight) → OwnTurn call slot → IsFewer call slot
+fewer_own call slot (OwnTurn.OwnRefuses w e plan may is) = fewer_as call slot _ is (fewer_refused call w plan)
+fewer_own call slot (OwnTurn.OwnReserves n plan is) = fewer_as call slot _ is (fewer_reserved call (with_number (Some n) call) plan (record { request = refl; refusal = refl; place = refl }) refl)
+fewer_own call slot (OwnTurn.OwnLooks o plan is) =
+    fewer_as call slot _ is (fewer_plain call (with_look o call) Look plan refl (record { request = refl; refusal = refl; place = refl }) refl (omega (arith, length-ids_and call.looked o)))
+fewer_own call slot (OwnTurn.OwnMakes o outcome plan is) = fewer_as call slot _ is (fewer_make call (with_made o outcome call) plan (record { request = refl; refusal = refl; place = refl }) refl refl)
+fewer_own call slot (OwnTurn.OwnCommits plan is) = fewer_as call slot _ is (fewer_plain call (without_lock call) Commit plan refl (record { request = refl; refusal = refl; place = refl }) refl (omega arith))
+fewer_own call slot (OwnTurn.OwnDoes outcome plan is) = fewer_as call slot _ is (fewer_plain call (with_outcome outcome call) Act plan refl (record { request = refl; refusal = refl; place = refl }) refl (omega arith))
+fewer_own call slot (OwnTurn.OwnLocks o plan is) = fewer_as call slot _ is (fewer_plain call (with_lock o call) Lock plan refl (record { request = refl; refusal = refl; place = refl }) refl (omega arith))
+fewer_own call slot (OwnTurn.OwnChecks plan is) = fewer_as call slot _ is (fewer_plain call (moved_on call) Check plan refl (record { request = refl; refusal = refl; place = refl }) refl (omega arith))
+fewer_own call slot (OwnTurn.OwnFinishes plan is) = fewer_as call slot _ is (fewer_plain call (without_lock call) Finish plan refl (record { request = refl; refusal = refl; place = refl }) refl (omega arith))
+fewer_own call slot (OwnTurn.OwnAborts ends word is) =
+    let number = closing_abort call word in
+    let one : abort_steps call.reserved ≡ 1 = ap abort_steps number.1 in
+    fewer_as call slot _ is (fewer_closing call (without_number call) ends ends (omega (arith, one)))
+fewer_own call slot (OwnTurn.OwnFrees ends word is) =
+    let frees = length-ids_behind call.looked (closing_free call word).1 in
+    fewer_as call slot _ is (fewer_closing call (without_look call) ends ends (omega (arith, frees)))
+fewer_own call slot (OwnTurn.OwnLeaves ends word is) = fewer_as call slot _ is (rw (closing_steps call ends) (omega arith))
 
-pub MakesIn-fine : (m : State) (kind : Kind) → (make_of m kind).refusal ≡ None → MakesIn m kind
-MakesIn-fine m kind e = makes_by m kind (m.made == NONE) (home_cell m kind) refl refl e
+-- each turn leaves fewer ahead
+pub fewer_turn : (m m' : State) (c : ℕ) (w : Word) (o : ℕ) (found : Option QpState) (a : Answer) → IsTurn m c w o found a m' → steps_ahead (call_of m' c) < steps_ahead (call_of m c)
+fewer_turn m m' c w o found a t =
+    let k = calls_turn m c t.call a m' t.turn in
+    rw (call_of-changed m m' c k.change t.call k.calls t.is, t.is) (fewer_own t.call (k.change (Some t.call)) k.own)
 
--- the object that a call makes in the cell of this index
-abbrev pub object_made : State → InFlight → Kind → ℕ → Object
-object_made m call kind index = new_object m call kind index (generation_in index (slice_get m.pools (kind_place kind)))
-
-module _ (m : State) (c : ℕ) (call : InFlight) (is : call_of m c ≡ Some call) where
-  fewer_with : (m' : State) (g : InFlight → InFlight) → call_of m' c ≡ Some call → IsFewer (Some (g call)) call → IsFewer (call_of (with_call m' c g) c) call
-  fewer_with m' g e h = rw (call_of-with_call m' c g call e) h
-
-  fewer_unless : (m' : State) (r : Option Errno) → 3 ≤ steps_behind call call.refusal → IsFewer (call_of m' c) call → IsFewer (call_of (unless_refused m c r m') c) call
-  fewer_unless m' None least h = h
-  fewer_unless m' (Some e) least h = fewer_with m (with_refusal e) is (omega (arith, steps_back_most call.reserved))
-
-  fewer_fine : (m' : State) (r : Option Errno) → r ≡ None → IsFewer (call_of m' c) call → IsFewer (call_of (unless_refused m c r m') c) call
-  fewer_fine m' r e h = rw e h
-
-  fewer_creating : (n : ℕ) (call' : InFlight) → n < 3 → IsCreating (role_of call.request) call.refusal call.place n → call'.request ≡ call.request → call'.refusal ≡ call.refusal → call'.place ≡ next_place call.place → IsFewer (Some call') call
-  fewer_creating n call' most s r e p = rw (e, r, p ∙ next_place_below call.place n s.here most, s.fine, s.creates, s.here) (omega arith)
-
-  fewer_destroying : (n : ℕ) (call' : InFlight) → n < 3 → IsDestroying (role_of call.request) call.refusal call.place n → call'.request ≡ call.request → call'.refusal ≡ call.refusal → call'.place ≡ next_place call.place → IsFewer (Some call') call
-  fewer_destroying n call' most s r e p = rw (e, r, p ∙ next_place_below call.place n s.here most, s.fine, s.destroys, s.here) (omega arith)
-
-  least_creating : (n : ℕ) → n < 2 → IsCreating (role_of call.request) call.refusal call.place n → 3 ≤ steps_behind call call.refusal
-  least_creating n most s = rw (ahead_creating call n s) (omega arith)
-
-  least_destroying : (n : ℕ) → n < 2 → IsDestroying (role_of call.request) call.refusal call.place n → 3 ≤ steps_behind call call.refusal
-  least_destroying n most s = rw (ahead_destroying call n s) (omega arith)
-
-  fewer_new : (x : Object) → IsCreating (role_of call.request) call.refusal call.place 1 → IsFewer (call_of (with_new m c x) c) call
-  fewer_new x s = fewer_with m (with_made x.id (made_outcome x)) is (fewer_creating 1 (with_made x.id (made_outcome x) call) (omega arith) s refl refl refl)
-
-  fewer_made_at : (kind : Kind) (index : ℕ) → IsCreating (role_of call.request) call.refusal call.place 1 → IsFewer (call_of (make_at m c call kind (Some index)) c) call
-  fewer_made_at kind index s = fewer_new (object_made m call kind index) s
-
-  fewer_made_from : (kind : Kind) (i : Option ℕ) (index : ℕ) → i ≡ Some index → IsCreating (role_of call.request) call.refusal call.place 1 → IsFewer (call_of (make_at m c call kind i) c) call
-  fewer_made_from kind None index e s = absurd (none-some _ e)
-  fewer_made_from kind (Some i) index e s = fewer_made_at kind i s
-
-  fewer_made_as : (role : Role) (kind : Kind) → role ≡ Creates kind → (make_told m role).refusal ≡ None → IsCreating (role_of call.request) call.refusal call.place 1 → IsFewer (call_of (make m c call role) c) call
-  fewer_made_as (Creates k) kind r e s = let found = MakesIn-fine m k e in fewer_made_from k (home_cell m k) found.index found.home s
-  fewer_made_as (Destroys asked) kind r e s = absurd (cc)
-  fewer_made_as (Acts act) kind r e s = absurd (cc)
-
-  fewer_made : (r : Option Errno) → r ≡ (told m c call Make).refusal → IsCreating (role_of call.request) call.refusal call.place 1 → IsFewer (call_of (unless_refused m c r (make m c call (role_of call.request))) c) call
-  fewer_made None e s = fewer_made_as (role_of call.request) s.kind s.creates (sym e) s
-  fewer_made (Some errno) e s = fewer_with m (with_refusal errno) is (let least = least_creating 1 (omega arith) s in omega (arith, steps_back_most call.reserved))
-
-  fewer_stepped : (w : Word) (o : ℕ) (a : Answer) → StandsAt w (role_of call.request) call.refusal call.place call.reserved → TellsRefusal w (told m c call w).refusal a → IsFewer (call_of (stepped m c call w o (refusal_in a)) c) call
-  fewer_stepped Reserve o a s t = fewer_unless _ (refusal_in a) (least_creating 0 (omega arith) s) (fewer_with m (with_number (least_free m call.file)) is (fewer_creating 0 (with_number (least_free m call.file) call) (omega arith) s refl refl refl))
-  fewer_stepped Make o a s t = fewer_made (refusal_in a) t s
-  fewer_stepped Commit o a s t = fewer_fine _ (refusal_in a) t (fewer_with (with_object m o ToLive) without_lock is (fewer_creating 2 (without_lock call) (omega arith) s refl refl refl))
-  fewer_stepped Lock o a s t = fewer_unless _ (refusal_in a) (least_destroying 0 (omega arith) s) (fewer_with m (with_lock o) is (fewer_destroying 0 (with_lock o call) (omega arith) s refl refl refl))
-  fewer_stepped Check o a s t = fewer_unless _ (refusal_in a) (least_destroying 1 (omega arith) s) (fewer_with (with_object m o ToDoomed) moved_on is (fewer_destroying 1 (moved_on call) (omega arith) s refl refl refl))
-  fewer_stepped Finish o a s t = fewer_fine _ (refusal_in a) t (fewer_with (without_object (buried_if_doomed m (object_with m o)) o) without_lock (rw (calls_buried m (object_with m o)) is) (fewer_destroying 2 (without_lock call) (omega arith) s refl refl refl))
-  fewer_stepped Abort o a s t = fewer_fine _ (refusal_in a) t (fewer_with m without_number is (rw (s.refused, s.keeps) (omega arith)))
-  fewer_stepped Exit o a s t = rw (call_of-left m c) (steps_behind_least call call.refusal)
-
--- each step leaves fewer ahead
 pub steps_ahead-step :
     (m : State) (c : ℕ) (w : Word) (o : ℕ) (found : Option QpState) (a : Answer) → Allowed m (Step c w o found a)
     → steps_ahead (call_of (after m (Step c w o found a)) c) < steps_ahead (call_of m c)
-steps_ahead-step m c w o found a allowed =
-    let s = IsStepOf-allowed m c w o found a allowed in
-    subst (λ slot. steps_ahead (call_of (after_step m c slot w o a) c) < steps_ahead slot) (sym s.is) (fewer_stepped m c s.call s.is w o a (StandsAt-next_word s.call w s.word) (tells_of m s.call (kept_in a) w _ a s.answer))
+steps_ahead-step m c w o found a allowed = fewer_turn m (after m (Step c w o found a)) c w o found a (IsTurn-allowed m c w o found a allowed)

@@ -1,10 +1,9 @@
 -- The teardown of a file, once no call is in flight.
-use Rattle.std.specs.Prelude.{ℕ, Bool, true, false, not, ◌&&◌, ◌≡◌, ◌≢◌, ◌≤◌, ◌<◌, ◌+◌, ◌==◌, ◌⊎◌, List, [], ◌∷◌, ◌++◌, Option, None, Some, refl, map, find, reverse, slice_get, option_map}
+use Rattle.std.specs.Prelude.{ℕ, Bool, true, false, not, ◌&&◌, ◌≡◌, ◌≢◌, ◌≤◌, ◌<◌, ◌+◌, ◌==◌, List, [], ◌∷◌, ◌++◌, Option, None, Some, IsSome, refl, map, find, reverse, slice_get, option_map, if◌then◌else◌}
 use Rattle.std.specs.List.{list_any}
 use Rattle.std.specs.Cmp.Derive.{both_true}
-use Rattle.std.proofs.Common.{zero, suc, count_by, ap, sym, subst, ◌∙◌, inl, inr, ⊎_elim, arith}
-use Rattle.std.proofs.lemmas.Option.{none-some}
-use Rattle.std.proofs.lemmas.Bool.{eqb-true, eq-eqb, ne_eqb}
+use Rattle.std.proofs.Common.{zero, suc, count_by, ap, sym, subst, ◌∙◌, ⊎_elim, arith}
+use Rattle.std.proofs.lemmas.Bool.{and_parts, eqb-true, eq-eqb, ne_eqb}
 use Rattle.uv_num.specs.declared.kind.Kind.{Kind}
 use Rattle.uv_num.specs.declared.kind.Kind.TheVariants.{Pd, Channel, Cq, Qp, Srq, Ah, Mr, Mw}
 use Rattle.uv_num.specs.Kind.{kind_rank}
@@ -18,71 +17,98 @@ use Rattle.uv_machine.specs.declared.object.Phase.TheVariants as phase
 use Rattle.uv_machine.specs.declared.object.Object.{Object}
 use Rattle.uv_machine.specs.declared.object.Change.TheVariants.{ToDoomed, ToHusk}
 use Rattle.uv_machine.specs.declared.file.File.{File}
+use Rattle.uv_machine.specs.declared.file.FilePhase.{FilePhase}
 use Rattle.uv_machine.specs.declared.file.FilePhase.TheVariants as file
 use Rattle.uv_machine.specs.declared.state.State.{State}
-use Rattle.uv_machine.specs.Objects.{has_id, in_file, is_made, is_live, is_doomed, is_husk, is_doomed_in, is_standing_in, uses_object, doomed_from, changed, on_object}
-use Rattle.uv_machine.specs.States.{object_with, phase_in, phase_of, is_tearing, is_closing, has_users, has_doomed, has_standing, can_go, newest_free, start}
+use Rattle.uv_machine.specs.Objects.{has_id, in_file, is_live, is_doomed, is_husk, is_live_in, is_doomed_in, is_standing_in, uses_object, doomed_from, changed, on_object}
+use Rattle.uv_machine.specs.States.{object_with, phase_in, phase_of, device_of, is_unplugged, is_quiet, is_fresh, is_open, is_callable, is_tearing, is_removing, is_closing, has_users, has_doomed, has_standing, can_go, newest_free, start}
 use Rattle.uv_machine.specs.Effects.{with_file, in_phase, with_object, with_burial, gone_from}
-use Rattle.uv_machine.specs.Outside.{is_swept, is_object, may_kill_in, may_kill_object, may_kill, may_go_object, may_go, may_close}
+use Rattle.uv_machine.specs.Outside.{is_swept, is_object, may_kill_in, may_kill_object, may_kill, may_go_object, may_go, may_dissociate, may_close}
 use Rattle.uv_machine.specs.Histories.{Allowed, after, state_of, IsLegal}
-use Rattle.uv_machine.specs.Laws.{IsIdle, IsSwept, standing_count}
+use Rattle.uv_machine.specs.Laws.{IsSwept, standing_count}
 use Rattle.uv_machine.specs.Reached.{IsIn, IsAbove, IsHeldFor, Reached}
 use Rattle.uv_machine.proofs.GoingOn.{state_from-snoc, IsLegalFrom-snoc}
 use Rattle.uv_num.proofs.PlaceLaws.{slice_get-at_place_same}
-use Rattle.uv_machine.proofs.Members.{IsIn-reverse, IsIn-from_reverse, IsIn-into_map, Passes, Passes-find, fails_find, SomePasses-list_any, list_any-none, fails_any, count_by-map-le, count_by-map-lt}
-use Rattle.uv_machine.proofs.Apart.{is_quiet-idle}
+use Rattle.uv_machine.proofs.Members.{IsIn-reverse, IsIn-from_reverse, IsIn-into_map, IsIn-map, Passes, Passes-find, fails_find, SomePasses-list_any, list_any-none, fails_any, count_by-map-le, count_by-map-lt}
+use Rattle.uv_machine.proofs.Calling.{quiet_none, false_unless}
+use Rattle.uv_machine.proofs.Keeping.{phase_cases}
 use Rattle.uv_machine.proofs.Changing.{changed_if, on_object-id, on_object-file, husk-doomed, doomed-doomed}
-use Rattle.uv_machine.proofs.Graph.{find_rising, uses_nothing, IsGraph-map}
-use Rattle.uv_machine.proofs.Keeping.{over_map}
-use Rattle.uv_machine.proofs.Reaching.{and_left, and_right, Reached-state_of}
+use Rattle.uv_machine.proofs.Graph.{find_rising, uses_nothing, gains_doomed, IsGraph-map}
+use Rattle.uv_machine.proofs.Reaching.{Reached-state_of}
 
-false_unless : (b : Bool) → (b ≡ true → ⊥) → b ≡ false
-false_unless true h = absurd (h refl)
-false_unless false h = refl
+and_left : (a b : Bool) → (a && b) ≡ true → a ≡ true
+and_left a b h = (and_parts a b h).0
 
--- What is known of a file of an idle machine.
+and_right : (a b : Bool) → (a && b) ≡ true → b ≡ true
+and_right a b h = (and_parts a b h).1
 
-module _ (m : State) (idle : IsIdle m) where
-  held_by_none : (w : Word) (o : ℕ) → IsHeldFor m w o → ⊥
-  held_by_none w o h = none-some h.call (sym (idle h.actor) ∙ h.is)
+-- What is known of a file without calls.
+
+module _ (m : State) (f : ℕ) (quiet : is_quiet m f ≡ true) where
+  held_by_none : (w : Word) (x : Object) → x.file ≡ f → IsHeldFor m w x → ⊥
+  held_by_none w x of_it h = quiet_none m h.actor f h.call quiet h.is (h.same ∙ of_it)
 
 -- The beginning.
 
-torn_from : (by : ℕ) (x : Option File) → phase_in x ≡ file.Open → phase_in (option_map (in_phase (file.Tearing by)) x) ≡ file.Tearing by
+torn_from : (by : ℕ) (x : Option File) → is_fresh (phase_in x) ≡ false → phase_in (option_map (in_phase (file.Tearing by)) x) ≡ file.Tearing by
 torn_from by None h = absurd (cc)
 torn_from by (Some x) h = refl
 
-module _ (m : State) (f : ℕ) (r : Reached m) (idle : IsIdle m) (open_now : phase_of m f ≡ file.Open) where
+callable_is : (p : FilePhase) → is_callable p ≡ true → (is_fresh p ≡ false) × (is_tearing p ≡ false)
+callable_is file.Fresh h = absurd (cc)
+callable_is file.Open h = (refl, refl)
+callable_is (file.Tearing by) h = absurd (cc)
+callable_is file.Dissociated h = (refl, refl)
+callable_is file.Closed h = absurd (cc)
+
+open_is_callable : (p : FilePhase) → is_open p ≡ true → is_callable p ≡ true
+open_is_callable file.Fresh h = absurd (cc)
+open_is_callable file.Open h = refl
+open_is_callable (file.Tearing by) h = absurd (cc)
+open_is_callable file.Dissociated h = absurd (cc)
+open_is_callable file.Closed h = absurd (cc)
+
+torn_callable : (p : FilePhase) (driver gone : Bool) → (if driver then is_open p && gone else is_callable p) ≡ true → is_callable p ≡ true
+torn_callable p true gone h = open_is_callable p (and_left _ _ h)
+torn_callable p false gone h = h
+
+module _ (m : State) (f : ℕ) (r : Reached m) (quiet : is_quiet m f ≡ true) (callable : is_callable (phase_of m f) ≡ true) where
   none_doomed : (x : Object) → IsIn x m.objects → is_doomed_in f x ≡ true → ⊥
   none_doomed x k h =
       let same : x.file ≡ f = eqb-true x.file f (and_left _ _ h) in
       ⊎_elim
-      (λ held. held_by_none m idle Finish x.id held)
-      (λ t. let a : is_tearing (phase_of m x.file) ≡ false = ap (λ k. is_tearing (phase_of m k)) same ∙ ap is_tearing open_now in cc)
+      (λ held. held_by_none m f quiet Finish x same held)
+      (λ swept. let a : is_tearing (phase_of m x.file) ≡ false = ap (λ k. is_tearing (phase_of m k)) same ∙ (callable_is (phase_of m f) callable).1 in let b = and_left (is_tearing (phase_of m x.file)) (is_quiet m x.file) swept in cc)
       (r.ending x k (and_right _ _ h))
 
-  clear_at_open : has_doomed m f ≡ false
-  clear_at_open = list_any-none (is_doomed_in f) m.objects (λ x k. false_unless (is_doomed_in f x) (none_doomed x k))
+  clear_at_tear : has_doomed m f ≡ false
+  clear_at_tear = list_any-none (is_doomed_in f) m.objects (λ x k. false_unless (is_doomed_in f x) (none_doomed x k))
 
   torn_now : (by : ℕ) → phase_of (with_file m f (in_phase (file.Tearing by))) f ≡ file.Tearing by
-  torn_now by = ap phase_in (slice_get-at_place_same m.files f (in_phase (file.Tearing by))) ∙ torn_from by (slice_get m.files f) open_now
+  torn_now by = ap phase_in (slice_get-at_place_same m.files f (in_phase (file.Tearing by))) ∙ torn_from by (slice_get m.files f) (callable_is (phase_of m f) callable).0
 
 -- a history that goes on by an entry that leads to a swept state
-swept_by : (h : List Entry) (e : Entry) (f by : ℕ) → IsLegal h → Allowed (state_of h) e → IsIdle (after (state_of h) e) → phase_of (after (state_of h) e) f ≡ file.Tearing by → has_doomed (after (state_of h) e) f ≡ false → IsSwept (h ++ e ∷ []) f by
-swept_by h e f by legal allowed idle tearing clear =
+swept_by : (h : List Entry) (e : Entry) (f by : ℕ) → IsLegal h → Allowed (state_of h) e → is_quiet (after (state_of h) e) f ≡ true → phase_of (after (state_of h) e) f ≡ file.Tearing by → has_doomed (after (state_of h) e) f ≡ false → IsSwept (h ++ e ∷ []) f by
+swept_by h e f by legal allowed quiet tearing clear =
     let goes_on = sym (state_from-snoc start h e) in
     record {
       legal = IsLegalFrom-snoc start h e legal allowed;
-      idle = subst (λ s. IsIdle s) goes_on idle;
+      quiet = subst (λ s. is_quiet s f ≡ true) goes_on quiet;
       tearing = subst (λ s. phase_of s f ≡ file.Tearing by) goes_on tearing;
       clear = subst (λ s. has_doomed s f ≡ false) goes_on clear;
     }
 
-pub IsSwept-tear : (h : List Entry) (f : ℕ) (by : ℕ) → IsLegal h → IsIdle (state_of h) → phase_of (state_of h) f ≡ file.Open → Allowed (state_of h) (Tear f by) → IsSwept (h ++ Tear f by ∷ []) f by
-IsSwept-tear h f by legal idle open_now allowed =
-    swept_by h (Tear f by) f by legal allowed idle
-    (torn_now (state_of h) f (Reached-state_of h legal) idle open_now by)
-    (clear_at_open (state_of h) f (Reached-state_of h legal) idle open_now)
+pub IsSwept-tear : (h : List Entry) (f : ℕ) (by : ℕ) → IsLegal h → is_quiet (state_of h) f ≡ true → Allowed (state_of h) (Tear f by) → IsSwept (h ++ Tear f by ∷ []) f by
+IsSwept-tear h f by legal quiet allowed =
+    let m = state_of h in
+    let callable = torn_callable (phase_of m f) (by == DRIVER) (is_unplugged m (device_of m f)) allowed.2 in
+    swept_by h (Tear f by) f by legal allowed quiet
+    (torn_now m f (Reached-state_of h legal) quiet callable by)
+    (clear_at_tear m f (Reached-state_of h legal) quiet callable)
+
+-- what is so of each item behind a function is so of the mapped list's
+over_map : (f : Object → Object) (P : Object → Type 0) (xs : List Object) → ((x : Object) → IsIn x xs → P (f x)) → (y : Object) → IsIn y (map f xs) → P y
+over_map f P xs each y h = let from = IsIn-map f y xs h in subst P (sym from.gives) (each from.item from.within)
 
 -- One turn: the newest object that can go is killed, and is gone.
 
@@ -120,7 +146,7 @@ husk_if-not_husk : (b : Bool) (x : Object) → not (is_husk (changed_if b ToHusk
 husk_if-not_husk true x h = absurd (cc)
 husk_if-not_husk false x h = h
 
-module _ (m : State) (f by : ℕ) (r : Reached m) (idle : IsIdle m) (tearing : phase_of m f ≡ file.Tearing by) (clear : has_doomed m f ≡ false) (x : Object) (free : newest_free m f ≡ Some x) where
+module _ (m : State) (f by : ℕ) (r : Reached m) (quiet : is_quiet m f ≡ true) (tearing : phase_of m f ≡ file.Tearing by) (clear : has_doomed m f ≡ false) (x : Object) (free : newest_free m f ≡ Some x) where
   found : Passes (can_go m f) x (reverse m.objects)
   found = Passes-find (can_go m f) x (reverse m.objects) free
 
@@ -134,7 +160,7 @@ module _ (m : State) (f by : ℕ) (r : Reached m) (idle : IsIdle m) (tearing : p
   live_now = and_left _ _ (and_right (in_file f x) _ found.test)
 
   swept_now : is_swept m f ≡ true
-  swept_now = both_true (ap is_tearing tearing) (is_quiet-idle m f idle)
+  swept_now = both_true (ap is_tearing tearing) quiet
 
   kills_in : may_kill_in m x.id f ≡ true
   kills_in = both_true swept_now (both_true (ap not clear) (ap (is_object x.id) free ∙ eq-eqb x.id x.id refl))
@@ -159,7 +185,7 @@ module _ (m : State) (f by : ℕ) (r : Reached m) (idle : IsIdle m) (tearing : p
   killed_found : object_with (with_object m x.id ToDoomed) x.id ≡ Some (on_object x.id ToDoomed x)
   killed_found =
       ap (λ i. find (has_id i) (map (on_object x.id ToDoomed) m.objects)) (sym (on_object-id x.id ToDoomed x))
-      ∙ find_rising 0 m.made (on_object x.id ToDoomed x) (map (on_object x.id ToDoomed) m.objects) killed_there (IsGraph-map m.made x.id ToDoomed m.objects r.graph).rising
+      ∙ find_rising 0 m.made (on_object x.id ToDoomed x) (map (on_object x.id ToDoomed) m.objects) killed_there (IsGraph-map m.made x.id ToDoomed m.objects r.graph (gains_doomed m.made x.id m.objects)).rising
 
   pub goes : may_go (with_object m x.id ToDoomed) x.id ≡ true
   goes = ap (may_go_object (with_object m x.id ToDoomed)) killed_found ∙ both_true killed_doomed (ap (is_swept m) killed_file ∙ swept_now)
@@ -209,18 +235,18 @@ module _ (m : State) (f by : ℕ) (r : Reached m) (idle : IsIdle m) (tearing : p
       omega arith
 
 pub may_kill-swept : (h : List Entry) (f by : ℕ) (x : Object) → IsSwept h f by → newest_free (state_of h) f ≡ Some x → may_kill (state_of h) x.id ≡ true
-may_kill-swept h f by x s free = kills (state_of h) f by (Reached-state_of h s.legal) s.idle s.tearing s.clear x free
+may_kill-swept h f by x s free = kills (state_of h) f by (Reached-state_of h s.legal) s.quiet s.tearing s.clear x free
 
 pub may_go-killed : (h : List Entry) (f by : ℕ) (x : Object) → IsSwept h f by → newest_free (state_of h) f ≡ Some x → may_go (state_of (h ++ Kill x.id ∷ [])) x.id ≡ true
-may_go-killed h f by x s free = rw (state_from-snoc start h (Kill x.id)) (goes (state_of h) f by (Reached-state_of h s.legal) s.idle s.tearing s.clear x free)
+may_go-killed h f by x s free = rw (state_from-snoc start h (Kill x.id)) (goes (state_of h) f by (Reached-state_of h s.legal) s.quiet s.tearing s.clear x free)
 
 -- what was killed stands doomed, and is else as it was
 pub object_with-killed : (h : List Entry) (f by : ℕ) (x : Object) → IsSwept h f by → newest_free (state_of h) f ≡ Some x → (object_with (state_of (h ++ Kill x.id ∷ [])) x.id ≡ Some (changed ToDoomed x)) × (x.file ≡ f)
 object_with-killed h f by x s free =
     let r = Reached-state_of h s.legal in
     let it : on_object x.id ToDoomed x ≡ changed ToDoomed x = ap (λ b. changed_if b ToDoomed x) (eq-eqb x.id x.id refl) in (
-      ap (λ t. object_with t x.id) (state_from-snoc start h (Kill x.id)) ∙ killed_found (state_of h) f by r s.idle s.tearing s.clear x free ∙ ap Some it,
-      of_file (state_of h) f by r s.idle s.tearing s.clear x free,
+      ap (λ t. object_with t x.id) (state_from-snoc start h (Kill x.id)) ∙ killed_found (state_of h) f by r s.quiet s.tearing s.clear x free ∙ ap Some it,
+      of_file (state_of h) f by r s.quiet s.tearing s.clear x free,
     )
 
 -- a kill and its release leave a swept file, with fewer objects standing
@@ -233,13 +259,13 @@ IsSwept-turn h f by kept x s free =
     let h1 = h ++ Kill x.id ∷ [] in
     let legal : IsLegal (h ++ Kill x.id ∷ []) = IsLegalFrom-snoc start h (Kill x.id) s.legal (may_kill-swept h f by x s free) in
     let e : after (state_of (h ++ Kill x.id ∷ [])) (Gone x.id kept) ≡ with_burial (with_object (with_object (state_of h) x.id ToDoomed) x.id ToHusk) (on_object x.id ToDoomed x) =
-    ap (λ t. gone_from t x.id (object_with t x.id)) (state_from-snoc start h (Kill x.id)) ∙ turned (state_of h) f by r s.idle s.tearing s.clear x free
+    ap (λ t. gone_from t x.id (object_with t x.id)) (state_from-snoc start h (Kill x.id)) ∙ turned (state_of h) f by r s.quiet s.tearing s.clear x free
     in (
       swept_by (h ++ Kill x.id ∷ []) (Gone x.id kept) f by legal (may_go-killed h f by x s free)
-          (subst (λ t. IsIdle t) (sym e) s.idle)
+          (subst (λ t. is_quiet t f ≡ true) (sym e) s.quiet)
           (subst (λ t. phase_of t f ≡ file.Tearing by) (sym e) s.tearing)
-          (subst (λ t. has_doomed t f ≡ false) (sym e) (clear_behind (state_of h) f by r s.idle s.tearing s.clear x free)),
-      subst (λ t. standing_count t f < standing_count (state_of h) f) (sym (state_from-snoc start (h ++ Kill x.id ∷ []) (Gone x.id kept) ∙ e)) (fewer_stand (state_of h) f by r s.idle s.tearing s.clear x free),
+          (subst (λ t. has_doomed t f ≡ false) (sym e) (clear_behind (state_of h) f by r s.quiet s.tearing s.clear x free)),
+      subst (λ t. standing_count t f < standing_count (state_of h) f) (sym (state_from-snoc start (h ++ Kill x.id ∷ []) (Gone x.id kept) ∙ e)) (fewer_stand (state_of h) f by r s.quiet s.tearing s.clear x free),
     )
 
 -- The end.
@@ -254,18 +280,11 @@ rank_most Ah = omega arith
 rank_most Mr = omega arith
 rank_most Mw = omega arith
 
--- the four phases
-phase_cases : (p : Phase) → (is_made p ≡ true) ⊎ ((is_live p ≡ true) ⊎ ((is_doomed p ≡ true) ⊎ (is_husk p ≡ true)))
-phase_cases phase.Made = inl refl
-phase_cases phase.Live = inr (inl refl)
-phase_cases phase.Doomed = inr (inr (inl refl))
-phase_cases phase.Husk = inr (inr (inr refl))
-
 used_if : (a b c : Bool) → (a && (b && not c)) ≡ false → a ≡ true → b ≡ true → c ≡ true
 used_if a b true h ha hb = refl
 used_if a b false h ha hb = absurd (let k : (a && (b && true)) ≡ true = both_true ha (both_true hb refl) in cc)
 
-module _ (m : State) (f : ℕ) (r : Reached m) (idle : IsIdle m) (clear : has_doomed m f ≡ false) (none_free : newest_free m f ≡ None) where
+module _ (m : State) (f : ℕ) (r : Reached m) (quiet : is_quiet m f ≡ true) (clear : has_doomed m f ≡ false) (none_free : newest_free m f ≡ None) where
   -- a live object of the file has a user, and that another, of higher and higher rank
   climbs : (n : ℕ) (x : Object) → IsIn x m.objects → in_file f x ≡ true → is_live x.phase ≡ true → 4 ≤ kind_rank x.kind + n → ⊥
   climbs zero x k of_it live most = absurd (omega (arith, rank_most x.kind))
@@ -277,7 +296,7 @@ module _ (m : State) (f : ℕ) (r : Reached m) (idle : IsIdle m) (clear : has_do
       let above : IsAbove y x = (r.graph.uses y user.passes.within).above x k user.passes.test in
       let in_it : in_file f y ≡ true = ap (λ k. k == f) (sym above.same) ∙ of_it in
       ⊎_elim
-      (λ made. held_by_none m idle Commit y.id (r.making y user.passes.within made))
+      (λ made. held_by_none m f quiet Commit y (eqb-true y.file f in_it) (r.making y user.passes.within made))
       (λ rest.
       ⊎_elim
       (λ lives. climbs n y user.passes.within in_it lives (omega (arith, above.rank)))
@@ -293,7 +312,7 @@ module _ (m : State) (f : ℕ) (r : Reached m) (idle : IsIdle m) (clear : has_do
   not_standing x k h =
       let of_it : in_file f x ≡ true = and_left _ _ h in
       ⊎_elim
-      (λ made. held_by_none m idle Commit x.id (r.making x k made))
+      (λ made. held_by_none m f quiet Commit x (eqb-true x.file f of_it) (r.making x k made))
       (λ rest.
       ⊎_elim
       (λ lives. climbs 4 x k of_it lives (omega arith))
@@ -309,8 +328,25 @@ module _ (m : State) (f : ℕ) (r : Reached m) (idle : IsIdle m) (clear : has_do
   none_standing = list_any-none (is_standing_in f) m.objects (λ x k. false_unless _ (not_standing x k))
 
   closes : (by : ℕ) → phase_of m f ≡ file.Tearing by → by ≢ DRIVER → may_close m f ≡ true
-  closes by tearing ne = both_true (ap is_closing tearing ∙ ap not (ne_eqb by DRIVER ne)) (both_true (is_quiet-idle m f idle) (ap not none_standing))
+  closes by tearing ne = both_true (ap is_closing tearing ∙ ap not (ne_eqb by DRIVER ne)) (both_true quiet (ap not none_standing))
+
+  leaves : phase_of m f ≡ file.Tearing DRIVER → may_dissociate m f ≡ true
+  leaves tearing = both_true (ap is_removing tearing ∙ eq-eqb DRIVER DRIVER refl) (both_true quiet (ap not none_standing))
+
+  no_live : list_any (is_live_in f) m.objects ≡ false
+  no_live = list_any-none (is_live_in f) m.objects (λ x k. false_unless _ (λ h. climbs 4 x k (and_left _ _ h) (and_right _ _ h) (omega arith)))
 
 -- when nothing of a swept file can go, it may be closed
 pub may_close-swept : (h : List Entry) (f by : ℕ) → IsSwept h f by → by ≢ DRIVER → newest_free (state_of h) f ≡ None → may_close (state_of h) f ≡ true
-may_close-swept h f by s ne none_free = closes (state_of h) f (Reached-state_of h s.legal) s.idle s.clear none_free by s.tearing ne
+may_close-swept h f by s ne none_free = closes (state_of h) f (Reached-state_of h s.legal) s.quiet s.clear none_free by s.tearing ne
+
+pub may_dissociate-swept : (h : List Entry) (f : ℕ) → IsSwept h f DRIVER → newest_free (state_of h) f ≡ None → may_dissociate (state_of h) f ≡ true
+may_dissociate-swept h f s none_free = leaves (state_of h) f (Reached-state_of h s.legal) s.quiet s.clear none_free s.tearing
+
+-- while an object is live, one can go
+free_by : (m : State) (f : ℕ) (slot : Option Object) → Reached m → is_quiet m f ≡ true → has_doomed m f ≡ false → list_any (is_live_in f) m.objects ≡ true → newest_free m f ≡ slot → IsSome slot
+free_by m f None r quiet clear live none = absurd (let no = no_live m f r quiet clear none in cc)
+free_by m f (Some x) r quiet clear live is = refl
+
+pub finds_free : (h : List Entry) (f : ℕ) → IsLegal h → is_quiet (state_of h) f ≡ true → has_doomed (state_of h) f ≡ false → list_any (is_live_in f) (state_of h).objects ≡ true → IsSome (newest_free (state_of h) f)
+finds_free h f legal quiet clear live = free_by (state_of h) f (newest_free (state_of h) f) (Reached-state_of h legal) quiet clear live refl

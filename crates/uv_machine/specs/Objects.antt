@@ -1,16 +1,19 @@
--- An object seen alone: tests that the rules are made of, and the changes of its phase.
-use Rattle.std.specs.Prelude.{ℕ, Bool, true, false, not, ◌&&◌, ◌==◌, if◌then◌else◌}
-use Rattle.uv_num.specs.declared.kind.Kind.{Kind}
-use Rattle.uv_num.specs.Kind.{kind_place}
+-- An object seen alone: tests that the rules are made of, and its changes.
+use Rattle.std.specs.Prelude.{ℕ, Bool, true, false, not, ◌&&◌, ◌==◌, Option, None, Some, if◌then◌else◌, slice_get, unwrap_or}
 use Rattle.std.specs.List.{list_any}
+use Rattle.uv_num.specs.declared.kind.Kind.{Kind}
+use Rattle.uv_num.specs.declared.limits.TheConstants.{NONE}
 use Rattle.uv_num.specs.declared.ids.Ids.{Ids}
 use Rattle.uv_num.specs.declared.ids.Ids.TheVariants.{Empty}
-use Rattle.uv_num.specs.Ids.{ids_of, is_number}
+use Rattle.uv_num.specs.Kind.{kind_place}
+use Rattle.uv_num.specs.Ids.{ids_of, ids_and, first_alone, is_number}
 use Rattle.uv_machine.specs.declared.object.Phase.{Phase}
 use Rattle.uv_machine.specs.declared.object.Phase.TheVariants as phase
+use Rattle.uv_machine.specs.declared.object.Binding.{Binding}
 use Rattle.uv_machine.specs.declared.object.Object.{Object}
 use Rattle.uv_machine.specs.declared.object.Change.{Change}
-use Rattle.uv_machine.specs.declared.object.Change.TheVariants.{ToLive, ToDoomed, ToHusk}
+use Rattle.uv_machine.specs.declared.object.Change.TheVariants.{ToLive, ToDoomed, ToHusk, ToBound}
+use Rattle.uv_machine.specs.Requests.{service_in, length_in, access_in}
 
 -- two kinds are one
 abbrev pub is_kind : Kind → Kind → Bool
@@ -60,6 +63,10 @@ is_published_at f n x = has_handle f n x && not (is_made x.phase)
 abbrev pub uses_object : ℕ → Object → Bool
 uses_object o x = list_any (is_number o) (ids_of x.uses)
 
+-- the object is of this file and live
+abbrev pub is_live_in : ℕ → Object → Bool
+is_live_in f x = in_file f x && is_live x.phase
+
 -- the object is of this file and doomed
 abbrev pub is_doomed_in : ℕ → Object → Bool
 is_doomed_in f x = in_file f x && is_doomed x.phase
@@ -67,6 +74,26 @@ is_doomed_in f x = in_file f x && is_doomed x.phase
 -- the object is of this file and has not been released
 abbrev pub is_standing_in : ℕ → Object → Bool
 is_standing_in f x = in_file f x && not (is_husk x.phase)
+
+-- What an object has of the request that made it, and of what it uses.
+
+-- the service of a queue pair
+abbrev pub object_service : Object → ℕ
+object_service x = service_in x.request
+
+-- the bytes of a region
+abbrev pub region_length : Object → ℕ
+region_length x = length_in x.request
+
+-- the rights of a region
+abbrev pub region_access : Object → ℕ
+region_access x = access_in x.request
+
+-- the domain of an object: what it uses first
+abbrev pub domain_of : Object → ℕ
+domain_of x = unwrap_or (slice_get (ids_of x.uses) 0) NONE
+
+-- Changes.
 
 -- a live object that is taken out of use is doomed; a husk stays one
 abbrev pub doomed_from : Phase → Phase
@@ -86,11 +113,17 @@ live_from phase.Husk = phase.Husk
 abbrev pub no_ids : Ids
 no_ids = Empty
 
+-- what a window uses that is bound so: its domain, and the region
+abbrev pub bound_uses : Option Binding → Ids → Ids
+bound_uses None uses = first_alone uses
+bound_uses (Some binding) uses = ids_and (first_alone uses) binding.region
+
 -- an object after a change
 abbrev pub changed : Change → Object → Object
 changed ToLive x = record x { phase = live_from x.phase }
 changed ToDoomed x = record x { phase = doomed_from x.phase }
-changed ToHusk x = record x { phase = phase.Husk; uses = no_ids }
+changed ToHusk x = record x { phase = phase.Husk; uses = no_ids; binding = None }
+changed (ToBound binding) x = record x { uses = bound_uses binding x.uses; binding = binding }
 
 -- an object after a change of the one with this id
 abbrev pub on_object : ℕ → Change → Object → Object

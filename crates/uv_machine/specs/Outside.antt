@@ -5,7 +5,6 @@ use Rattle.std.specs.Prelude.{ℕ, Bool, true, false, not, ◌&&◌, ◌==◌, �
 use Rattle.uv_num.specs.declared.errno.Errno.{Errno}
 use Rattle.uv_num.specs.declared.errno.Errno.TheVariants.{Io, BadF, NoMem, Inval}
 use Rattle.uv_num.specs.declared.request.Request.{Request}
-use Rattle.uv_num.specs.declared.request.Request.TheVariants.{AllocPd, DeallocPd, CreateChannel, DestroyChannel, CreateCq, DestroyCq, CreateQp, DestroyQp, ModifyQp, QueryQp, CreateSrq, DestroySrq, CreateAh, DestroyAh, RegMr, DeregMr, AllocMw, DeallocMw, BindMw, GetAsync}
 use Rattle.uv_num.specs.declared.request.Role.{Role}
 use Rattle.uv_num.specs.declared.request.Role.TheVariants.{Creates, Destroys, Acts}
 use Rattle.uv_num.specs.declared.request.Act.{Act}
@@ -17,7 +16,7 @@ use Rattle.uv_machine.specs.declared.entry.Answer.TheVariants as answer
 use Rattle.uv_machine.specs.declared.object.Object.{Object}
 use Rattle.uv_machine.specs.declared.state.State.{State}
 use Rattle.uv_machine.specs.Objects.{has_id, is_doomed}
-use Rattle.uv_machine.specs.States.{object_with, phase_of, device_of, is_unplugged, is_fresh, is_open, is_callable, is_tearing, is_closing, is_quiet, has_doomed, has_standing, newest_free}
+use Rattle.uv_machine.specs.States.{object_with, phase_of, device_of, is_unplugged, is_fresh, is_open, is_callable, is_tearing, is_removing, is_closing, is_quiet, has_doomed, has_standing, newest_free}
 
 -- this refusal, or else success or want of memory
 abbrev pub MayAnswer : Option Errno → Answer → Type 0
@@ -28,34 +27,12 @@ MayAnswer None a = (a ≡ answer.Ok) ⊎ (a ≡ answer.Refused NoMem)
 abbrev pub open_refusal : State → ℕ → ℕ → Option Errno
 open_refusal m f d = if not (is_fresh (phase_of m f)) then Some Inval else (if is_unplugged m d then Some Io else None)
 
--- the requests that the machine has a plan for; no other enters
-abbrev pub has_plan : Request → Bool
-has_plan AllocPd = true
-has_plan (DeallocPd pd) = true
-has_plan CreateChannel = false
-has_plan (DestroyChannel channel) = false
-has_plan (CreateCq depth channel) = false
-has_plan (DestroyCq cq) = false
-has_plan (CreateQp pd send_cq recv_cq srq service send_depth recv_depth) = false
-has_plan (DestroyQp qp) = false
-has_plan (ModifyQp qp to attrs) = false
-has_plan (QueryQp qp) = false
-has_plan (CreateSrq pd depth) = false
-has_plan (DestroySrq srq) = false
-has_plan (CreateAh pd device) = false
-has_plan (DestroyAh ah) = false
-has_plan (RegMr pd length access) = false
-has_plan (DeregMr mr) = false
-has_plan (AllocMw pd) = false
-has_plan (DeallocMw mw) = false
-has_plan (BindMw mw mr offset length access) = false
-has_plan GetAsync = false
-
 -- events serve without the device, which tell that it went
 abbrev pub act_needs_device : Act → Bool
-act_needs_device act.Modify = true
+act_needs_device (act.Modify to attrs) = true
 act_needs_device act.Query = true
-act_needs_device act.Bind = true
+act_needs_device (act.Bind offset length access) = true
+act_needs_device (act.Unbind offset length access) = true
 act_needs_device act.Async = false
 
 -- a destroy serves without the device: the handles that its removal left may be destroyed
@@ -103,3 +80,7 @@ may_go m o = may_go_object m (object_with m o)
 -- all objects of the file are husks
 abbrev pub may_close : State → ℕ → Bool
 may_close m f = is_closing (phase_of m f) && (is_quiet m f && not (has_standing m f))
+
+-- the same where the driver tears it down
+abbrev pub may_dissociate : State → ℕ → Bool
+may_dissociate m f = is_removing (phase_of m f) && (is_quiet m f && not (has_standing m f))

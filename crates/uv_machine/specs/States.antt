@@ -14,7 +14,7 @@ use Rattle.uv_machine.specs.declared.call.InFlight.{InFlight}
 use Rattle.uv_machine.specs.declared.state.State.{State}
 use Rattle.uv_machine.specs.Objects.{has_id, in_file, has_handle, is_published_at, uses_object, is_live, is_doomed_in, is_standing_in}
 use Rattle.uv_machine.specs.Cells.{home_index, full_pool}
-use Rattle.uv_machine.specs.Plans.{reserves, holds, is_call_on}
+use Rattle.uv_machine.specs.Plans.{reserves, locks, holds, is_call_on}
 
 -- Calls.
 
@@ -42,6 +42,10 @@ published m f n = find (is_published_at f n) m.objects
 -- some object uses this one
 abbrev pub has_users : State → ℕ → Bool
 has_users m o = list_any (uses_object o) m.objects
+
+-- a call holds the object exclusively
+abbrev pub is_excluded : State → ℕ → Bool
+is_excluded m o = list_any (locks o) m.calls
 
 -- a call of another actor holds the object
 abbrev pub holds_beside : ℕ → ℕ → ℕ × Option InFlight → Bool
@@ -90,8 +94,16 @@ device_in (Some x) = x.device
 abbrev pub device_of : State → ℕ → ℕ
 device_of m f = device_in (slice_get m.files f)
 
+-- the file has an event that wasn't taken
+abbrev pub event_in : Option File → Bool
+event_in None = false
+event_in (Some x) = x.event
+
+abbrev pub has_event : State → ℕ → Bool
+has_event m f = event_in (slice_get m.files f)
+
 abbrev pub is_unplugged : State → ℕ → Bool
-is_unplugged m d = not (unwrap_or (slice_get m.plugged d) true)
+is_unplugged m d = not (unwrap_or (slice_get m.plugged d) false)
 
 abbrev pub is_fresh : FilePhase → Bool
 is_fresh file.Fresh = true
@@ -122,6 +134,21 @@ is_tearing (file.Tearing by) = true
 is_tearing file.Dissociated = false
 is_tearing file.Closed = false
 
+-- the driver is tearing it down
+abbrev pub is_removing : FilePhase → Bool
+is_removing file.Fresh = false
+is_removing file.Open = false
+is_removing (file.Tearing by) = by == DRIVER
+is_removing file.Dissociated = false
+is_removing file.Closed = false
+
+abbrev pub is_dissociated : FilePhase → Bool
+is_dissociated file.Fresh = false
+is_dissociated file.Open = false
+is_dissociated (file.Tearing by) = false
+is_dissociated file.Dissociated = true
+is_dissociated file.Closed = false
+
 -- it is being closed: not torn by the driver
 abbrev pub is_closing : FilePhase → Bool
 is_closing file.Fresh = false
@@ -151,7 +178,7 @@ has_standing m f = list_any (is_standing_in f) m.objects
 -- The state in which nothing has happened.
 
 abbrev pub fresh_file : File
-fresh_file = record { phase = file.Fresh; device = 0; client = 0 }
+fresh_file = record { phase = file.Fresh; device = 0; client = 0; event = false }
 
 unfoldable pub start : State
 start = record {

@@ -1,11 +1,11 @@
 //! A call in flight: what it has done so far and what it holds.
 
-ghost use Rattle.std.specs.Prelude.{◌≡◌, [], ◌∷◌, unwrap_or, slice_get};
-ghost use Rattle.uv_machine.specs.declared.entry.Word.TheVariants.{Reserve, Make, Commit, Lock, Check, Finish, Abort, Exit};
-ghost use Rattle.uv_machine.specs.Plans.{entered, plan_of, unwound, next_word, is_number, holds, is_call_on, own_object, call_answer, next_place, moved_on, with_refusal, with_number, with_made, with_lock, without_lock, without_number};
+ghost use Rattle.std.specs.Prelude.{◌≡◌, [], ◌∷◌, ◌++◌, length, replicate, slice_get};
+ghost use Rattle.uv_machine.specs.declared.entry.Word.TheVariants.{Reserve, Look, Make, Commit, Act, Lock, Check, Finish};
+ghost use Rattle.uv_machine.specs.Plans.{entered, plan_of, plan_for, freeing, closing_word, closing, next_word, is_number, locks, looks_at, holds, is_call_on, own_object, looked_at, acted_on, look_ask, call_answer, next_place, moved_on, with_refusal, with_number, with_look, with_made, with_outcome, with_lock, without_lock, without_number, without_look};
 
 use crate::entry::{Answer, Word};
-use uv_num::{Errno, NONE, Request, Role};
+use uv_num::{Ask, Errno, Ids, NONE, Request, Role};
 
 /// A call in flight of one actor.
 #[derive(Clone, Copy, Debug, PartialEq)]
@@ -18,6 +18,9 @@ pub struct InFlight {
     pub refusal: Option<Errno>,
     /// The handle number that is set aside for it.
     pub reserved: Option<u32>,
+    /// The objects that it looks at, in the order of its request's arguments; one may stand twice. It lets them go in
+    /// that order.
+    pub looked: Ids,
     /// The object that it holds exclusively.
     pub locked: Option<u32>,
     /// What its exit tells, unless a step was refused.
@@ -27,11 +30,11 @@ pub struct InFlight {
 /// The most steps of a plan.
 pub const PLAN_STEPS: u32 = 16;
 
-const CREATE: [Word; 4] = [Word::Reserve, Word::Make, Word::Commit, Word::Exit];
+const MADE: [Word; 2] = [Word::Make, Word::Commit];
 
-const DESTROY: [Word; 4] = [Word::Lock, Word::Check, Word::Finish, Word::Exit];
+const DESTROYED: [Word; 3] = [Word::Lock, Word::Check, Word::Finish];
 
-const ACT: [Word; 1] = [Word::Exit];
+const DONE: [Word; 1] = [Word::Act];
 
 impl InFlight {
     /// A call that has just entered.
@@ -44,6 +47,7 @@ impl InFlight {
             place: 0,
             refusal: None,
             reserved: None,
+            looked: Ids::Empty,
             locked: None,
             outcome: Answer::Ok,
         }
@@ -54,12 +58,49 @@ impl InFlight {
         ensures { result ≡ next_word self.now }
     {
         match self.refusal {
-            None => planned(self.request.role(), self.place),
-            Some(_) => unwound(self.reserved),
+            None => self.planned_word().unwrap_or(self.closing()),
+            Some(_) => self.closing(),
         }
     }
 
-    /// The object that the call holds, or `NONE`.
+    fn planned_word(&self) -> Option<Word>
+        ensures { result ≡ slice_get (plan_for self.now.request) self.now.place }
+    {
+        planned(
+            self.request.role(),
+            self.request.looks().len(),
+            self.place as usize,
+        )
+    }
+
+    fn closing(&self) -> Word
+        ensures { result ≡ closing self.now }
+    {
+        closing_word(self.reserved, self.looked)
+    }
+
+    /// What the call looks at next, if anything.
+    pub fn look_ask(&self) -> Option<Ask>
+        ensures { result ≡ look_ask self.now }
+    {
+        self.request.looks().get(self.looked.len())
+    }
+
+    /// The object at a place of those that the call looks at, or `NONE`.
+    pub fn looked_at(&self, place: usize) -> u32
+        ensures { result ≡ looked_at place self.now }
+    {
+        self.looked.get(place).unwrap_or(NONE)
+    }
+
+    /// The object that an act is about and that a free gives back, or `NONE`.
+    pub fn acted_on(&self) -> u32
+        ensures { result ≡ acted_on self.now }
+    {
+        self.looked_at(0)
+    }
+
+    /// The object that the call holds exclusively, or `NONE`.
     pub fn own_object(&self) -> u32
         ensures { result ≡ own_object self.now }
     {
@@ -77,39 +118,64 @@ impl InFlight {
     }
 }
 
-fn planned(role: Role, place: u32) -> Word
-    ensures { result ≡ unwrap_or (slice_get (plan_of role) place) Exit }
+/// The word at a place of a plan, for a role that looks at so many objects.
+fn planned(role: Role, looks: usize, place: usize) -> Option<Word>
+    ensures { result ≡ slice_get (plan_of role looks) place }
 {
     match role {
-        Role::Creates(_) => create_word(place),
+        Role::Creates(_) => create_word(looks, place),
         Role::Destroys(_) => destroy_word(place),
-        Role::Acts(_) => act_word(place),
+        Role::Acts(_) => act_word(looks, place),
     }
 }
 
-fn create_word(place: u32) -> Word
-    ensures { result ≡ unwrap_or (slice_get (Reserve ∷ Make ∷ Commit ∷ Exit ∷ []) place) Exit }
+fn create_word(looks: usize, place: usize) -> Option<Word>
+    ensures { result ≡ slice_get (Reserve ∷ (replicate looks Look ++ Make ∷ Commit ∷ [])) place }
 {
-    CREATE.get(place as usize).copied().unwrap_or(Word::Exit)
+    if place == 0 {
+        return Some(Word::Reserve);
+    }
+    made_word(looks, place - 1)
 }
 
-fn destroy_word(place: u32) -> Word
-    ensures { result ≡ unwrap_or (slice_get (Lock ∷ Check ∷ Finish ∷ Exit ∷ []) place) Exit }
+fn made_word(looks: usize, place: usize) -> Option<Word>
+    ensures { result ≡ slice_get (replicate looks Look ++ Make ∷ Commit ∷ []) place }
 {
-    DESTROY.get(place as usize).copied().unwrap_or(Word::Exit)
+    if place < looks {
+        return Some(Word::Look);
+    }
+    MADE.get(place - looks).copied()
 }
 
-fn act_word(place: u32) -> Word
-    ensures { result ≡ unwrap_or (slice_get (Exit ∷ []) place) Exit }
+fn destroy_word(place: usize) -> Option<Word>
+    ensures { result ≡ slice_get (Lock ∷ Check ∷ Finish ∷ []) place }
 {
-    ACT.get(place as usize).copied().unwrap_or(Word::Exit)
+    DESTROYED.get(place).copied()
 }
 
-fn unwound(reserved: Option<u32>) -> Word
-    ensures { result ≡ unwound reserved }
+fn act_word(looks: usize, place: usize) -> Option<Word>
+    ensures { result ≡ slice_get (replicate looks Look ++ Act ∷ []) place }
+{
+    if place < looks {
+        return Some(Word::Look);
+    }
+    DONE.get(place - looks).copied()
+}
+
+fn freeing(looked: Ids) -> Word
+    ensures { result ≡ freeing looked }
+{
+    match looked {
+        Ids::Empty => Word::Exit,
+        Ids::One(..) | Ids::Two(..) | Ids::Three(..) | Ids::Four(..) => Word::Free,
+    }
+}
+
+fn closing_word(reserved: Option<u32>, looked: Ids) -> Word
+    ensures { result ≡ closing_word reserved looked }
 {
     match reserved {
-        None => Word::Exit,
+        None => freeing(looked),
         Some(_) => Word::Abort,
     }
 }
@@ -144,12 +210,26 @@ impl InFlight {
         self.reserved = number;
     }
 
+    pub(crate) fn look(&mut self, id: u32)
+        ensures { self.new ≡ with_look id self.old }
+    {
+        self.place = next_place(self.place);
+        self.looked = self.looked.and(id);
+    }
+
     pub(crate) fn take_made(&mut self, id: u32, outcome: Answer)
         ensures { self.new ≡ with_made id outcome self.old }
     {
         self.place = next_place(self.place);
         self.reserved = None;
         self.locked = Some(id);
+        self.outcome = outcome;
+    }
+
+    pub(crate) fn note(&mut self, outcome: Answer)
+        ensures { self.new ≡ with_outcome outcome self.old }
+    {
+        self.place = next_place(self.place);
         self.outcome = outcome;
     }
 
@@ -172,6 +252,12 @@ impl InFlight {
     {
         self.reserved = None;
     }
+
+    pub(crate) fn let_go(&mut self)
+        ensures { self.new ≡ without_look self.old }
+    {
+        self.looked = self.looked.behind();
+    }
 }
 
 fn next_place(place: u32) -> u32
@@ -180,13 +266,29 @@ fn next_place(place: u32) -> u32
     if place < PLAN_STEPS { place + 1 } else { place }
 }
 
-/// Whether the call in a place of the table holds this object.
+/// Whether the call in a place of the table holds this object exclusively.
+pub fn locks(slot: Option<InFlight>, id: u32) -> bool
+    ensures { result ≡ locks id slot }
+{
+    match slot {
+        None => false,
+        Some(call) => is_number(call.locked, id),
+    }
+}
+
+fn looks_at(call: InFlight, id: u32) -> bool
+    ensures { result ≡ looks_at id call }
+{
+    call.looked.contains(id)
+}
+
+/// Whether the call in a place of the table holds this object, exclusively or not.
 pub fn holds(slot: Option<InFlight>, id: u32) -> bool
     ensures { result ≡ holds id slot }
 {
     match slot {
         None => false,
-        Some(call) => is_number(call.locked, id),
+        Some(call) => is_number(call.locked, id) || looks_at(call, id),
     }
 }
 

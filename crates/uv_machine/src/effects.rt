@@ -1,26 +1,23 @@
 //! What an entry makes of the state.
 
-ghost use Rattle.std.specs.Prelude.{◌≡◌, ◌<◌, length, filter, map, slice_get};
+ghost use Rattle.std.specs.Prelude.{◌≡◌, filter, map, slice_get};
 ghost use Rattle.uv_num.specs.Place.{at_place};
-ghost use Rattle.uv_machine.specs.Plans.{entered, with_refusal, without_number};
-ghost use Rattle.uv_machine.specs.Effects.{refusal_in, left, with_object, with_pool, with_burial, not_with_id, without_object, reserve, next_id, new_object, with_new, generation_in, made_outcome, make_at, make, commit, lock, check, buried_if_doomed, finish, stepped, with_call, after_step, with_file, opened, in_phase, gone_from, not_in_file, after_open, after_enter, after_closed};
+ghost use Rattle.uv_machine.specs.Plans.{entered, with_refusal, with_look, with_outcome, without_number, without_look};
+ghost use Rattle.uv_machine.specs.Effects.{refusal_in, left, with_object, with_pool, with_burial, not_with_id, without_object, reserve, next_id, new_object, with_room_for, with_new, generation_in, made_outcome, make_at, make, commit, binding_of, event_taken, act, act_by, lock, check, buried_if_doomed, finish, unless_refused, stepped, with_call, after_step, with_file, opened, in_phase, without_plug, dissociated, gone_from, not_in_file, after_open, after_enter, after_unplug, after_closed};
 ghost use Rattle.uv_machine.specs.Cells.{drawn, buried_at};
 ghost use Rattle.uv_num.specs.Request.{role_of};
 ghost use Rattle.uv_num.specs.Kind.{kind_place};
-ghost use Rattle.uv_machine.specs.Objects.{no_ids};
 ghost use Rattle.uv_machine.specs.States.{call_of, object_with};
-ghost use Rattle.uv_machine.specs.declared.entry.Word.TheVariants.{Make};
 ghost use Rattle.uv_machine.specs.Histories.{after};
-ghost use Rattle.uv_machine.specs.Laws.{HasRoom};
 
 use crate::call::InFlight;
 use crate::entry::{Answer, Entry, Word};
 use crate::file::{File, FilePhase};
-use crate::object::{Change, Object, Phase, change_object};
+use crate::object::{Binding, Change, Object, Phase, change_object};
 use crate::pool::Pool;
 use crate::state::State;
 use crate::table;
-use uv_num::{Errno, Ids, Kind, MOST_OBJECTS, NONE, Request, Role, Room};
+use uv_num::{Act, Errno, Kind, MOST_OBJECTS, NONE, Request, Role, Room};
 
 impl Answer {
     /// The errno of a refusal.
@@ -29,7 +26,11 @@ impl Answer {
     {
         match self {
             Answer::Refused(errno) => Some(errno),
-            Answer::Ok | Answer::Made { .. } | Answer::Kept(_) => None,
+            Answer::Ok
+            | Answer::Made { .. }
+            | Answer::State { .. }
+            | Answer::Event
+            | Answer::Kept(_) => None,
         }
     }
 }
@@ -56,7 +57,6 @@ impl State {
     }
 
     fn make(&mut self, actor: u32, call: InFlight)
-        requires { length self.old.objects < MOST_OBJECTS }
         ensures { self.new ≡ make self.old actor call (role_of call.request) }
     {
         match call.request.role() {
@@ -66,7 +66,6 @@ impl State {
     }
 
     fn make_at(&mut self, actor: u32, call: InFlight, kind: Kind, index: Option<u32>)
-        requires { length self.old.objects < MOST_OBJECTS }
         ensures { self.new ≡ make_at self.old actor call kind index }
     {
         if let Some(index) = index {
@@ -84,7 +83,8 @@ impl State {
             file: call.file,
             handle: call.reserved.unwrap_or(NONE),
             request: call.request,
-            uses: no_ids(),
+            uses: call.looked,
+            binding: None,
             index,
             generation: self.pools[kind.place()].generation(index),
             phase: Phase::Made,
@@ -92,10 +92,9 @@ impl State {
     }
 
     fn put_new(&mut self, actor: u32, x: Object)
-        requires { length self.old.objects < MOST_OBJECTS }
         ensures { self.new ≡ with_new self.old actor x }
     {
-        self.objects.put(x);
+        put_within(&mut self.objects, x);
         self.made = next_id(self.made);
         draw(&mut self.pools, x.kind.place(), x.index);
         table::take_made(&mut self.calls, actor as usize, x.id, made_outcome(x));
@@ -163,52 +162,131 @@ impl State {
         table::give_back(&mut self.calls, actor as usize);
     }
 
-    fn go_fine(&mut self, actor: u32, call: InFlight, word: Word, id: u32)
-        requires { word ≡ Make → length self.old.objects < MOST_OBJECTS }
-        ensures { self.new ≡ stepped self.old actor call word id None }
+    fn look(&mut self, actor: u32, id: u32)
+        ensures { self.new ≡ with_call self.old actor (with_look id) }
+    {
+        table::look(&mut self.calls, actor as usize, id);
+    }
+
+    fn note(&mut self, actor: u32, outcome: Answer)
+        ensures { self.new ≡ with_call self.old actor (with_outcome outcome) }
+    {
+        table::note(&mut self.calls, actor as usize, outcome);
+    }
+
+    fn take_event(&mut self, file: u32)
+        ensures { self.new ≡ with_file self.old file event_taken }
+    {
+        take_event(&mut self.files, file as usize);
+    }
+
+    fn act(&mut self, actor: u32, call: InFlight, answer: Answer, what: Act)
+        ensures { self.new ≡ act self.old actor call answer what }
+    {
+        match what {
+            Act::Modify { .. } | Act::Query => {}
+            Act::Bind {
+                offset,
+                length,
+                access,
+            } => self.change(
+                call.acted_on(),
+                Change::ToBound(Some(binding_of(call, offset, length, access))),
+            ),
+            Act::Unbind { .. } => self.change(call.acted_on(), Change::ToBound(None)),
+            Act::Async => self.take_event(call.file),
+        }
+        self.note(actor, answer);
+    }
+
+    fn act_by(&mut self, actor: u32, call: InFlight, answer: Answer, role: Role)
+        ensures { self.new ≡ act_by self.old actor call answer role }
+    {
+        match role {
+            Role::Creates(_) | Role::Destroys(_) => {}
+            Role::Acts(act) => self.act(actor, call, answer, act),
+        }
+    }
+
+    fn let_go(&mut self, actor: u32)
+        ensures { self.new ≡ with_call self.old actor without_look }
+    {
+        table::let_go(&mut self.calls, actor as usize);
+    }
+
+    fn go_fine(&mut self, actor: u32, call: InFlight, word: Word, id: u32, answer: Answer)
+        requires { refusal_in answer ≡ None }
+        ensures { self.new ≡ stepped self.old actor call word id answer }
     {
         match word {
             Word::Reserve => self.reserve(actor, call),
+            Word::Look => self.look(actor, id),
             Word::Make => self.make(actor, call),
             Word::Commit => self.commit(actor, id),
+            Word::Act => self.act_by(actor, call, answer, call.request.role()),
             Word::Lock => self.lock(actor, id),
             Word::Check => self.check(actor, id),
             Word::Finish => self.finish(actor, id),
             Word::Abort => self.give_back(actor),
+            Word::Free => self.let_go(actor),
             Word::Exit => self.leave(actor),
         }
     }
 
-    fn go_refused(&mut self, actor: u32, call: InFlight, word: Word, id: u32, errno: Errno)
-        ensures { self.new ≡ stepped self.old actor call word id (Some errno) }
+    fn go_refused(
+        &mut self,
+        actor: u32,
+        call: InFlight,
+        word: Word,
+        id: u32,
+        answer: Answer,
+        errno: Errno,
+    )
+        requires { refusal_in answer ≡ Some errno }
+        ensures { self.new ≡ stepped self.old actor call word id answer }
     {
         match word {
             Word::Reserve
+            | Word::Look
             | Word::Make
             | Word::Commit
+            | Word::Act
             | Word::Lock
             | Word::Check
             | Word::Finish
-            | Word::Abort => self.refuse(actor, errno),
+            | Word::Abort
+            | Word::Free => self.refuse(actor, errno),
             Word::Exit => self.leave(actor),
         }
     }
 
-    fn step(&mut self, actor: u32, call: InFlight, word: Word, id: u32, refusal: Option<Errno>)
-        requires { refusal ≡ None → word ≡ Make → length self.old.objects < MOST_OBJECTS }
-        ensures { self.new ≡ stepped self.old actor call word id refusal }
+    fn step(&mut self, actor: u32, call: InFlight, word: Word, id: u32, answer: Answer)
+        ensures { self.new ≡ stepped self.old actor call word id answer }
     {
-        match refusal {
-            None => self.go_fine(actor, call, word, id),
-            Some(errno) => self.go_refused(actor, call, word, id, errno),
+        match answer.refusal() {
+            None => self.go_fine(actor, call, word, id, answer),
+            Some(errno) => self.go_refused(actor, call, word, id, answer, errno),
         }
     }
 }
 
-fn no_ids() -> Ids
-    ensures { result ≡ no_ids }
+fn put_within(objects: &mut Room<Object, MOST_OBJECTS>, x: Object)
+    ensures { objects.new ≡ with_room_for x objects.old }
 {
-    Ids::Empty
+    if objects.len() < MOST_OBJECTS {
+        objects.put(x);
+    }
+}
+
+fn binding_of(call: InFlight, offset: u64, length: u64, access: u64) -> Binding
+    ensures { result ≡ binding_of call offset length access }
+{
+    Binding {
+        region: call.looked_at(1),
+        offset,
+        length,
+        access,
+    }
 }
 
 fn made_outcome(x: Object) -> Answer
@@ -263,6 +341,7 @@ fn open_at(files: &mut [File], at: usize, client: u32, device: u32)
             phase: FilePhase::Open,
             device,
             client,
+            event: false,
         };
     }
 }
@@ -272,6 +351,30 @@ fn set_phase(files: &mut [File], at: usize, phase: FilePhase)
 {
     if at < files.len() {
         files[at].phase = phase;
+    }
+}
+
+fn take_event(files: &mut [File], at: usize)
+    ensures { files.new ≡ at_place files.old at event_taken }
+{
+    if at < files.len() {
+        files[at].event = false;
+    }
+}
+
+fn dissociate(files: &mut [File], at: usize)
+    ensures { files.new ≡ at_place files.old at dissociated }
+{
+    if at < files.len() {
+        files[at].dissociate();
+    }
+}
+
+fn unplug(plugged: &mut [bool], at: usize)
+    ensures { plugged.new ≡ at_place plugged.old at without_plug }
+{
+    if at < plugged.len() {
+        plugged[at] = false;
     }
 }
 
@@ -298,11 +401,10 @@ impl State {
     }
 
     fn note_step(&mut self, actor: u32, word: Word, id: u32, answer: Answer)
-        requires { refusal_in answer ≡ None → word ≡ Make → length self.old.objects < MOST_OBJECTS }
         ensures { self.new ≡ after_step self.old actor (call_of self.old actor) word id answer }
     {
         if let Some(call) = self.call_of(actor) {
-            self.step(actor, call, word, id, answer.refusal());
+            self.step(actor, call, word, id, answer);
         }
     }
 
@@ -310,6 +412,18 @@ impl State {
         ensures { self.new ≡ with_file self.old file (in_phase phase) }
     {
         set_phase(&mut self.files, file as usize, phase);
+    }
+
+    fn pull(&mut self, device: u32)
+        ensures { self.new ≡ after_unplug self.old device }
+    {
+        unplug(&mut self.plugged, device as usize);
+    }
+
+    fn dissociate(&mut self, file: u32)
+        ensures { self.new ≡ with_file self.old file dissociated }
+    {
+        dissociate(&mut self.files, file as usize);
     }
 
     fn release(&mut self, id: u32)
@@ -328,10 +442,8 @@ impl State {
         remove_file(&mut self.objects, file);
     }
 
-    /// Makes the whole effect of an entry. It takes no memory: a Make that is accepted must find room, as it does in
-    /// every legal history.
+    /// Makes the whole effect of an entry. It takes no memory: behind a legal history there is room for a new object.
     pub fn apply(&mut self, entry: Entry)
-        requires { HasRoom self.old entry }
         ensures { self.new ≡ after self.old entry }
     {
         match entry {
@@ -354,9 +466,11 @@ impl State {
                 answer,
                 ..
             } => self.note_step(client, word, object, answer),
+            Entry::Unplug { device } => self.pull(device),
             Entry::Tear { file, by } => self.phase(file, FilePhase::Tearing { by }),
             Entry::Kill { object } => self.change(object, Change::ToDoomed),
             Entry::Gone { object, .. } => self.release(object),
+            Entry::Dissociated { file } => self.dissociate(file),
             Entry::Closed { file } => self.close(file),
         }
     }

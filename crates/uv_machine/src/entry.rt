@@ -7,10 +7,14 @@ use uv_num::{Errno, QpState, Request};
 pub enum Word {
     /// A handle number is set aside (`rdma_alloc_begin_uobject`, `idr_add_uobj`).
     Reserve,
+    /// An object that the request names is looked up and held with others (`rdma_lookup_get_uobject`).
+    Look,
     /// The object comes into being, locked by its call (`alloc_uobj`).
     Make,
     /// The object becomes visible and its lock goes (`rdma_alloc_commit_uobject`).
     Commit,
+    /// The request does what it is for with the objects that were looked at (the handler of its method).
+    Act,
     /// The object is looked up and locked exclusively (`rdma_lookup_get_uobject`, `uverbs_try_lock_object`).
     Lock,
     /// The object must have no users (`usecnt`).
@@ -19,6 +23,8 @@ pub enum Word {
     Finish,
     /// The number that was set aside is given back (`rdma_alloc_abort_uobject`).
     Abort,
+    /// An object that was looked at is let go (`rdma_lookup_put_uobject`).
+    Free,
     /// The call ends and tells its answer.
     Exit,
 }
@@ -34,6 +40,13 @@ pub enum Answer {
         index: u32,
         generation: u32,
     },
+    /// A query tells the state and the cell's index of a queue pair.
+    State {
+        state: QpState,
+        index: u32,
+    },
+    /// The oldest event of the file was taken. It is DEVICE_FATAL: this project has no other.
+    Event,
     /// An object was released, and so many actions stand in what it leaves.
     Kept(u64),
     /// It was refused.
@@ -57,14 +70,18 @@ pub enum Entry {
         request: Request,
         answer: Answer,
     },
-    /// A client's call makes its next step. `object` is `NONE` where the step names none, and `found` is
-    /// `None` at every word of this machine.
+    /// A client's call makes its next step. `object` is `NONE` where the step names none. `found` is the state that a
+    /// modify or a query of a queue pair found at its Act, and `None` at every other step.
     Step {
         client: u32,
         word: Word,
         object: u32,
         found: Option<QpState>,
         answer: Answer,
+    },
+    /// A device is pulled.
+    Unplug {
+        device: u32,
     },
     /// An actor begins to tear a file down.
     Tear {
@@ -79,6 +96,10 @@ pub enum Entry {
     Gone {
         object: u32,
         kept: u64,
+    },
+    /// The driver is through with a file of a device that was pulled.
+    Dissociated {
+        file: u32,
     },
     /// A file is closed.
     Closed {

@@ -2,11 +2,11 @@
 
 ghost use Rattle.std.specs.Prelude.{◌≡◌, ◌≤◌, ◌<◌, ◌↔◌, IsTrue, IfOk, MatchOption, Some};
 ghost use Rattle.uv_num.specs.declared.limits.TheConstants.{FILES, DEVICES};
-ghost use Rattle.uv_machine.specs.declared.entry.Entry.TheVariants.{Open, Enter, Step, Tear, Closed};
+ghost use Rattle.uv_machine.specs.declared.entry.Entry.TheVariants.{Open, Enter, Step, Unplug, Tear};
 ghost use Rattle.uv_machine.specs.Histories.{IsActor, kept_in, IsNext, Allowed, IsLegal, IsFirstBad};
 
 use crate::entry::{Answer, Done, Entry, Word};
-use crate::outside::{has_plan, may_answer};
+use crate::outside::may_answer;
 use crate::state::State;
 use std::alloc::{AllocError, Global};
 use uv_num::{ACTORS, DEVICES, FILES, QpState, Request};
@@ -36,9 +36,11 @@ impl State {
                 found,
                 answer,
             } => self.allows_step(client, word, object, found, answer),
+            Entry::Unplug { device } => self.allows_unplug(device),
             Entry::Tear { file, by } => self.allows_tear(file, by),
             Entry::Kill { object } => self.may_kill(object),
             Entry::Gone { object, .. } => self.may_go(object),
+            Entry::Dissociated { file } => is_file(file) && self.may_dissociate(file),
             Entry::Closed { file } => is_file(file) && self.may_close(file),
         }
     }
@@ -58,7 +60,6 @@ impl State {
         is_actor(client)
             && is_file(file)
             && self.call_of(client).is_none()
-            && has_plan(request)
             && may_answer(self.enter_refusal(file, request), answer)
     }
 
@@ -93,6 +94,12 @@ impl State {
         )
     }
 
+    fn allows_unplug(&self, device: u32) -> bool
+        ensures { IsTrue result ↔ Allowed self.now (Unplug device) }
+    {
+        is_device(device) && !self.is_unplugged(device)
+    }
+
     fn allows_tear(&self, file: u32, by: u32) -> bool
         ensures { IsTrue result ↔ Allowed self.now (Tear file by) }
     {
@@ -123,7 +130,11 @@ fn kept_in(answer: Answer) -> u64
 {
     match answer {
         Answer::Kept(kept) => kept,
-        Answer::Ok | Answer::Made { .. } | Answer::Refused(_) => 0,
+        Answer::Ok
+        | Answer::Made { .. }
+        | Answer::State { .. }
+        | Answer::Event
+        | Answer::Refused(_) => 0,
     }
 }
 

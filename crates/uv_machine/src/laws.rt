@@ -2,17 +2,26 @@
 
 mod accounts;
 mod calls;
+mod clients;
 mod histories;
+mod lives;
 mod numbers;
+mod reached;
 mod teardowns;
 
-pub use accounts::owed_covers;
+pub use accounts::{coming_covers, owed_covers};
 pub use calls::{
-    calls_stand_apart, enters_with_four, idle_is_quiet, make_has_place, steps_run_out,
+    calls_stand_apart, enters_with_few, idle_is_quiet, looks_are_few, make_has_place, steps_run_out,
 };
+pub use clients::{calls_go_on, calls_in_flight, calls_in_order};
 pub use histories::{legal_goes_on, state_goes_on};
+pub use lives::{destroy_answers, released_at_most_once, released_once, users_first};
 pub use numbers::make_has_room;
+pub use reached::{
+    legal_is_bounded, legal_is_celled, legal_is_reached, legal_looks_stand, legal_own_stands,
+    legal_uses_stand,
+};
 pub use teardowns::{
-    files_stand_apart, open_is_open, phases_stand_apart, sweep_begins, sweep_ends, sweep_goes_on,
-    sweep_kills, sweep_releases, sweep_shows,
+    files_stand_apart, finds_free, open_is_open, phases_stand_apart, sweep_begins, sweep_ends,
+    sweep_goes_on, sweep_kills, sweep_leaves, sweep_releases, sweep_shows,
 };

@@ -5,6 +5,7 @@
 //! computes them. The layers above cite `next_of`, `Allowed`, `after`, `IsLegal` and `state_of`.
 #![tactic(auto)]
 
+mod acts;
 mod call;
 mod effects;
 mod entry;
@@ -26,12 +27,18 @@ pub use entry::{Answer, Done, Entry, Word};
 pub use file::{File, FilePhase};
 pub use judging::first_bad;
 pub use laws::{
-    calls_stand_apart, enters_with_four, files_stand_apart, idle_is_quiet, legal_goes_on,
-    make_has_place, make_has_room, open_is_open, owed_covers, phases_stand_apart, state_goes_on,
-    steps_run_out, sweep_begins, sweep_ends, sweep_goes_on, sweep_kills, sweep_releases,
-    sweep_shows,
+    calls_go_on, calls_in_flight, calls_in_order, calls_stand_apart, coming_covers,
+    destroy_answers, enters_with_few, files_stand_apart, finds_free, idle_is_quiet, legal_goes_on,
+    legal_is_bounded, legal_is_celled, legal_is_reached, legal_looks_stand, legal_own_stands,
+    legal_uses_stand, looks_are_few, make_has_place, make_has_room, open_is_open, owed_covers,
+    phases_stand_apart, released_at_most_once, released_once, state_goes_on, steps_run_out,
+    sweep_begins, sweep_ends, sweep_goes_on, sweep_kills, sweep_leaves, sweep_releases,
+    sweep_shows, users_first,
 };
-pub use object::{Change, Object, Phase};
+pub use object::{Binding, Change, Object, Phase};
 pub use pool::{Cell, Pool};
 pub use state::{ACTOR_PLACES, State};
 pub use told::Told;
+
+#[cfg(test)]
+mod rows;

@@ -1,9 +1,10 @@
 //! An object of a file, as `struct ib_uobject` of the kernel.
 
 ghost use Rattle.std.specs.Prelude.{◌≡◌, map};
-ghost use Rattle.uv_machine.specs.Objects.{is_kind, is_made, is_live, is_doomed, is_husk, live_from, doomed_from, changed, on_object, has_handle, is_published_at, uses_object, is_doomed_in, is_standing_in};
+ghost use Rattle.uv_machine.specs.Requests.{service_in, length_in, access_in};
+ghost use Rattle.uv_machine.specs.Objects.{is_kind, is_made, is_live, is_doomed, is_husk, live_from, doomed_from, bound_uses, changed, on_object, has_handle, is_published_at, uses_object, is_doomed_in, is_standing_in, object_service, region_length, region_access, domain_of};
 
-use uv_num::{Ids, Kind, Request};
+use uv_num::{Ids, Kind, NONE, Request};
 
 /// How far an object's life is.
 #[derive(Clone, Copy, Debug, PartialEq)]
@@ -16,6 +17,19 @@ pub enum Phase {
     Doomed,
     /// A teardown has released it; its handle stays until a destroy or the file's end takes it away.
     Husk,
+}
+
+/// The range of a region that a window is bound to.
+#[derive(Clone, Copy, Debug, PartialEq)]
+pub struct Binding {
+    /// The region's id.
+    pub region: u32,
+    /// Where the range begins, in bytes from the region's begin.
+    pub offset: u64,
+    /// The range's length in bytes.
+    pub length: u64,
+    /// The window's rights.
+    pub access: u64,
 }
 
 /// An object.
@@ -31,6 +45,8 @@ pub struct Object {
     pub request: Request,
     /// The objects that it uses, in the order of its arguments; one may stand twice.
     pub uses: Ids,
+    /// What a window is bound to. Its region is then among the objects that it uses.
+    pub binding: Option<Binding>,
     /// Its cell among those of its kind.
     pub index: u32,
     /// The generation of that cell.
@@ -47,6 +63,8 @@ pub enum Change {
     ToDoomed,
     /// A teardown has released it: it uses nothing any more.
     ToHusk,
+    /// A window is bound to another range, or to none.
+    ToBound(Option<Binding>),
 }
 
 impl Phase {
@@ -147,16 +165,57 @@ impl Object {
         self.file == file && !self.phase.is_husk()
     }
 
+    /// The service number of a queue pair.
+    pub fn service(&self) -> u64
+        ensures { result ≡ object_service self.now }
+    {
+        service_in(self.request)
+    }
+
+    /// The bytes of a region.
+    pub fn length(&self) -> u64
+        ensures { result ≡ region_length self.now }
+    {
+        length_in(self.request)
+    }
+
+    /// The rights of a region.
+    pub fn access(&self) -> u64
+        ensures { result ≡ region_access self.now }
+    {
+        access_in(self.request)
+    }
+
+    /// The domain: what the object uses first, or `NONE`.
+    pub fn domain(&self) -> u32
+        ensures { result ≡ domain_of self.now }
+    {
+        self.uses.get(0).unwrap_or(NONE)
+    }
+
+    fn bind(&mut self, binding: Option<Binding>)
+        ensures { self.new ≡ changed (Change.ToBound binding) self.old }
+    {
+        self.uses = bound_uses(binding, self.uses);
+        self.binding = binding;
+    }
+
+    fn release(&mut self)
+        ensures { self.new ≡ changed Change.ToHusk self.old }
+    {
+        self.phase = Phase::Husk;
+        self.uses = Ids::Empty;
+        self.binding = None;
+    }
+
     fn change(&mut self, change: Change)
         ensures { self.new ≡ changed change self.old }
     {
         match change {
             Change::ToLive => self.phase = self.phase.live(),
             Change::ToDoomed => self.phase = self.phase.doomed(),
-            Change::ToHusk => {
-                self.phase = Phase::Husk;
-                self.uses = Ids::none();
-            }
+            Change::ToHusk => self.release(),
+            Change::ToBound(binding) => self.bind(binding),
         }
     }
 
@@ -166,6 +225,15 @@ impl Object {
         if self.id == id {
             self.change(change);
         }
+    }
+}
+
+fn bound_uses(binding: Option<Binding>, uses: Ids) -> Ids
+    ensures { result ≡ bound_uses binding uses }
+{
+    match binding {
+        None => uses.first_alone(),
+        Some(binding) => uses.first_alone().and(binding.region),
     }
 }
 
@@ -183,4 +251,88 @@ pub fn is_kind(a: Kind, b: Kind) -> bool
     ensures { result ≡ is_kind a b }
 {
     a.place() == b.place()
+}
+
+/// The service number of the queue pair that a request makes.
+fn service_in(request: Request) -> u64
+    ensures { result ≡ service_in request }
+{
+    match request {
+        Request::CreateQp { service, .. } => service,
+        Request::AllocPd
+        | Request::DeallocPd { .. }
+        | Request::CreateChannel
+        | Request::DestroyChannel { .. }
+        | Request::CreateCq { .. }
+        | Request::DestroyCq { .. }
+        | Request::DestroyQp { .. }
+        | Request::ModifyQp { .. }
+        | Request::QueryQp { .. }
+        | Request::CreateSrq { .. }
+        | Request::DestroySrq { .. }
+        | Request::CreateAh { .. }
+        | Request::DestroyAh { .. }
+        | Request::RegMr { .. }
+        | Request::DeregMr { .. }
+        | Request::AllocMw { .. }
+        | Request::DeallocMw { .. }
+        | Request::BindMw { .. }
+        | Request::GetAsync => 0,
+    }
+}
+
+/// The length of the region that a request makes.
+fn length_in(request: Request) -> u64
+    ensures { result ≡ length_in request }
+{
+    match request {
+        Request::RegMr { length, .. } => length,
+        Request::AllocPd
+        | Request::DeallocPd { .. }
+        | Request::CreateChannel
+        | Request::DestroyChannel { .. }
+        | Request::CreateCq { .. }
+        | Request::DestroyCq { .. }
+        | Request::CreateQp { .. }
+        | Request::DestroyQp { .. }
+        | Request::ModifyQp { .. }
+        | Request::QueryQp { .. }
+        | Request::CreateSrq { .. }
+        | Request::DestroySrq { .. }
+        | Request::CreateAh { .. }
+        | Request::DestroyAh { .. }
+        | Request::DeregMr { .. }
+        | Request::AllocMw { .. }
+        | Request::DeallocMw { .. }
+        | Request::BindMw { .. }
+        | Request::GetAsync => 0,
+    }
+}
+
+/// The rights of the region that a request makes.
+fn access_in(request: Request) -> u64
+    ensures { result ≡ access_in request }
+{
+    match request {
+        Request::RegMr { access, .. } => access,
+        Request::AllocPd
+        | Request::DeallocPd { .. }
+        | Request::CreateChannel
+        | Request::DestroyChannel { .. }
+        | Request::CreateCq { .. }
+        | Request::DestroyCq { .. }
+        | Request::CreateQp { .. }
+        | Request::DestroyQp { .. }
+        | Request::ModifyQp { .. }
+        | Request::QueryQp { .. }
+        | Request::CreateSrq { .. }
+        | Request::DestroySrq { .. }
+        | Request::CreateAh { .. }
+        | Request::DestroyAh { .. }
+        | Request::DeregMr { .. }
+        | Request::AllocMw { .. }
+        | Request::DeallocMw { .. }
+        | Request::BindMw { .. }
+        | Request::GetAsync => 0,
+    }
 }

@@ -1,8 +1,8 @@
 //! The outside rule: when the entries may come that no call makes by itself.
 
 ghost use Rattle.std.specs.Prelude.{◌≡◌, ◌↔◌, IsTrue};
-ghost use Rattle.uv_machine.specs.Outside.{MayAnswer, open_refusal, has_plan, act_needs_device, needs_device, enter_refusal, may_tear, is_swept, is_object, may_kill_in, may_kill_object, may_kill, may_go_object, may_go, may_close};
-ghost use Rattle.uv_machine.specs.States.{is_fresh, is_open, is_callable, is_tearing, is_closing};
+ghost use Rattle.uv_machine.specs.Outside.{MayAnswer, open_refusal, act_needs_device, needs_device, enter_refusal, may_tear, is_swept, is_object, may_kill_in, may_kill_object, may_kill, may_go_object, may_go, may_dissociate, may_close};
+ghost use Rattle.uv_machine.specs.States.{is_fresh, is_open, is_callable, is_tearing, is_removing, is_dissociated, is_closing};
 
 use crate::entry::Answer;
 use crate::file::FilePhase;
@@ -54,6 +54,28 @@ impl FilePhase {
         match self {
             FilePhase::Tearing { .. } => true,
             FilePhase::Fresh | FilePhase::Open | FilePhase::Dissociated | FilePhase::Closed =>
+                false,
+        }
+    }
+
+    /// Whether the driver is tearing the file down.
+    pub fn is_removing(self) -> bool
+        ensures { result ≡ is_removing self }
+    {
+        match self {
+            FilePhase::Tearing { by } => by == DRIVER,
+            FilePhase::Fresh | FilePhase::Open | FilePhase::Dissociated | FilePhase::Closed =>
+                false,
+        }
+    }
+
+    /// Whether the driver is through with the file.
+    pub fn is_dissociated(self) -> bool
+        ensures { result ≡ is_dissociated self }
+    {
+        match self {
+            FilePhase::Dissociated => true,
+            FilePhase::Fresh | FilePhase::Open | FilePhase::Tearing { .. } | FilePhase::Closed =>
                 false,
         }
     }
@@ -142,6 +164,13 @@ impl State {
         }
     }
 
+    /// Whether the driver may be through with a file: all its objects are husks.
+    pub fn may_dissociate(&self, file: u32) -> bool
+        ensures { result ≡ may_dissociate self.now file }
+    {
+        self.phase_of(file).is_removing() && self.is_quiet(file) && !self.has_standing(file)
+    }
+
     /// Whether a file may be closed: all its objects are husks.
     pub fn may_close(&self, file: u32) -> bool
         ensures { result ≡ may_close self.now file }
@@ -164,35 +193,8 @@ fn act_needs_device(act: Act) -> bool
     ensures { result ≡ act_needs_device act }
 {
     match act {
-        Act::Modify | Act::Query | Act::Bind => true,
+        Act::Modify { .. } | Act::Query | Act::Bind { .. } | Act::Unbind { .. } => true,
         Act::Async => false,
-    }
-}
-
-/// Whether the machine has a plan for a request: no other enters.
-pub fn has_plan(request: Request) -> bool
-    ensures { result ≡ has_plan request }
-{
-    match request {
-        Request::AllocPd | Request::DeallocPd { .. } => true,
-        Request::CreateChannel
-        | Request::DestroyChannel { .. }
-        | Request::CreateCq { .. }
-        | Request::DestroyCq { .. }
-        | Request::CreateQp { .. }
-        | Request::DestroyQp { .. }
-        | Request::ModifyQp { .. }
-        | Request::QueryQp { .. }
-        | Request::CreateSrq { .. }
-        | Request::DestroySrq { .. }
-        | Request::CreateAh { .. }
-        | Request::DestroyAh { .. }
-        | Request::RegMr { .. }
-        | Request::DeregMr { .. }
-        | Request::AllocMw { .. }
-        | Request::DeallocMw { .. }
-        | Request::BindMw { .. }
-        | Request::GetAsync => false,
     }
 }
 

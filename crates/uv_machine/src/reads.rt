@@ -4,10 +4,10 @@ ghost use Rattle.std.specs.Prelude.{◌≡◌, ◌==◌, ◌-◌, ◌≤◌, fin
 ghost use Rattle.std.specs.List.{list_any, enumerate_from};
 ghost use Rattle.std.specs.Option.{option_copied};
 ghost use Rattle.uv_machine.specs.Objects.{has_id, is_published_at};
-ghost use Rattle.uv_machine.specs.Plans.{is_call_on};
-ghost use Rattle.uv_machine.specs.States.{call_of, is_quiet, object_with, published, has_users, has_others, least_free, home_cell, phase_of, device_of, is_unplugged, can_go, newest_free, has_doomed, has_standing, holds_beside};
+ghost use Rattle.uv_machine.specs.Plans.{locks, is_call_on};
+ghost use Rattle.uv_machine.specs.States.{call_of, is_quiet, object_with, published, has_users, has_others, is_excluded, least_free, home_cell, phase_of, device_of, has_event, is_unplugged, can_go, newest_free, has_doomed, has_standing, holds_beside};
 
-use crate::call::{InFlight, holds, is_call_on};
+use crate::call::{InFlight, holds, is_call_on, locks};
 use crate::file::FilePhase;
 use crate::marks;
 use crate::object::Object;
@@ -53,6 +53,13 @@ impl State {
         self.objects.as_slice().iter().any(|x| x.uses_object(id))
     }
 
+    /// Whether a call holds the object exclusively.
+    pub fn is_excluded(&self, id: u32) -> bool
+        ensures { result ≡ is_excluded self.now id }
+    {
+        any_locks(&self.calls, id)
+    }
+
     /// Whether a call of another actor holds the object.
     pub fn has_others(&self, actor: u32, id: u32) -> bool
         ensures { result ≡ has_others self.now actor id }
@@ -94,11 +101,21 @@ impl State {
         }
     }
 
+    /// Whether an event of a file waits to be taken.
+    pub fn has_event(&self, file: u32) -> bool
+        ensures { result ≡ has_event self.now file }
+    {
+        match self.files.get(file as usize) {
+            None => false,
+            Some(x) => x.event,
+        }
+    }
+
     /// Whether a device is unplugged.
     pub fn is_unplugged(&self, device: u32) -> bool
         ensures { result ≡ is_unplugged self.now device }
     {
-        !self.plugged.get(device as usize).copied().unwrap_or(true)
+        !self.plugged.get(device as usize).copied().unwrap_or(false)
     }
 
     fn can_go(&self, file: u32, x: &Object) -> bool
@@ -146,6 +163,12 @@ fn any_on(calls: &[Option<InFlight>], file: u32) -> bool
     ensures { result ≡ list_any (is_call_on file) calls.now }
 {
     calls.iter().any(|slot| is_call_on(*slot, file))
+}
+
+fn any_locks(calls: &[Option<InFlight>], id: u32) -> bool
+    ensures { result ≡ list_any (locks id) calls.now }
+{
+    calls.iter().any(|slot| locks(*slot, id))
 }
 
 fn with_id(objects: &[Object], id: u32) -> Option<&Object>

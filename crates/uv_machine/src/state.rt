@@ -40,6 +40,7 @@ impl State {
             phase: FilePhase::Fresh,
             device: 0,
             client: 0,
+            event: false,
         };
         let pool = Pool {
             cells: [Cell {

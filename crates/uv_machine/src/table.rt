@@ -2,7 +2,7 @@
 
 ghost use Rattle.std.specs.Prelude.{◌≡◌, option_map};
 ghost use Rattle.uv_num.specs.Place.{at_place};
-ghost use Rattle.uv_machine.specs.Plans.{moved_on, with_refusal, with_number, with_made, with_lock, without_lock, without_number};
+ghost use Rattle.uv_machine.specs.Plans.{moved_on, with_refusal, with_number, with_look, with_made, with_outcome, with_lock, without_lock, without_number, without_look};
 ghost use Rattle.uv_machine.specs.Effects.{no_call, put_call};
 
 use crate::call::InFlight;
@@ -47,12 +47,32 @@ pub fn set_aside(calls: &mut [Option<InFlight>], at: usize, number: Option<u32>)
     }
 }
 
+pub fn look(calls: &mut [Option<InFlight>], at: usize, id: u32)
+    ensures { calls.new ≡ at_place calls.old at (option_map (with_look id)) }
+{
+    if at < calls.len() {
+        if let Some(call) = &mut calls[at] {
+            call.look(id);
+        }
+    }
+}
+
 pub fn take_made(calls: &mut [Option<InFlight>], at: usize, id: u32, outcome: Answer)
     ensures { calls.new ≡ at_place calls.old at (option_map (with_made id outcome)) }
 {
     if at < calls.len() {
         if let Some(call) = &mut calls[at] {
             call.take_made(id, outcome);
+        }
+    }
+}
+
+pub fn note(calls: &mut [Option<InFlight>], at: usize, outcome: Answer)
+    ensures { calls.new ≡ at_place calls.old at (option_map (with_outcome outcome)) }
+{
+    if at < calls.len() {
+        if let Some(call) = &mut calls[at] {
+            call.note(outcome);
         }
     }
 }
@@ -93,6 +113,16 @@ pub fn give_back(calls: &mut [Option<InFlight>], at: usize)
     if at < calls.len() {
         if let Some(call) = &mut calls[at] {
             call.give_back();
+        }
+    }
+}
+
+pub fn let_go(calls: &mut [Option<InFlight>], at: usize)
+    ensures { calls.new ≡ at_place calls.old at (option_map without_look) }
+{
+    if at < calls.len() {
+        if let Some(call) = &mut calls[at] {
+            call.let_go();
         }
     }
 }

@@ -448,32 +448,6 @@ fn calls_that_do_not_enter(rt: HostRuntime) -> Result<(), Fail> {
 }
 
 #[test]
-fn a_request_without_a_plan_does_not_enter(rt: HostRuntime) -> Result<(), Fail> {
-    let refused = |request: Request| enters(1, request, Answer::Refused(Errno::BadF));
-    let other = Request::DestroyChannel { channel: 0 };
-    let histories = [
-        (
-            [
-                opens(Answer::Ok),
-                enters(1, Request::CreateChannel, Answer::Ok),
-            ],
-            Some(1),
-        ),
-        ([opens(Answer::Ok), enters(1, other, Answer::Ok)], Some(1)),
-        (
-            [opens(Answer::Ok), enters(1, Request::GetAsync, Answer::Ok)],
-            Some(1),
-        ),
-        ([refused(Request::GetAsync), opens(Answer::Ok)], Some(0)),
-        ([refused(Request::AllocPd), opens(Answer::Ok)], None),
-    ];
-    for (history, want) in histories {
-        assert_eq!(rt; first_bad(rt.alloc(), &history)?, want, "{history:?}");
-    }
-    Ok(())
-}
-
-#[test]
 fn a_device_that_is_unplugged(rt: HostRuntime) -> Result<(), Fail> {
     let mut state = State::new(rt.alloc())?;
     state.apply(Entry::Open {

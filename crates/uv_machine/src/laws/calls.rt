@@ -1,15 +1,20 @@
 //! Laws on calls in flight.
 
-ghost use Rattle.uv_machine.specs.Laws.{StepsRunOut, EntersWithFour, CallsStandApart, IdleIsQuiet, MakeHasPlace};
+ghost use Rattle.uv_machine.specs.Laws.{LooksAreFew, StepsRunOut, EntersWithFew, CallsStandApart, IdleIsQuiet, MakeHasPlace};
+
+/// A request looks at four objects at most.
+pub fn looks_are_few()
+    ensures { LooksAreFew }
+{}
 
 /// Each step of a call leaves fewer ahead of it.
 pub fn steps_run_out()
     ensures { StepsRunOut }
 {}
 
-/// A call that has just entered has at most four steps ahead.
-pub fn enters_with_four()
-    ensures { EntersWithFour }
+/// A call that has just entered has at most four steps ahead and two for each look.
+pub fn enters_with_few()
+    ensures { EntersWithFew }
 {}
 
 /// An entry of one actor leaves every other actor's call as it was.

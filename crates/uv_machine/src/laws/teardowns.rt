@@ -1,8 +1,8 @@
-//! Laws on the teardown of a file, once no call is in flight.
+//! Laws on the teardown of a file, once no call on it is in flight.
 
-ghost use Rattle.uv_machine.specs.Laws.{SweepBegins, SweepKills, SweepReleases, SweepGoesOn, SweepEnds, SweepShows, OpenIsOpen, PhasesStandApart, FilesStandApart};
+ghost use Rattle.uv_machine.specs.Laws.{SweepBegins, SweepKills, SweepReleases, SweepGoesOn, SweepEnds, SweepLeaves, FindsFree, SweepShows, OpenIsOpen, PhasesStandApart, FilesStandApart};
 
-/// A tear of an open file begins a sweep.
+/// A tear of a file without calls begins a sweep.
 pub fn sweep_begins()
     ensures { SweepBegins }
 {}
@@ -30,6 +30,16 @@ pub fn sweep_goes_on()
 /// When no object can go the file may be closed.
 pub fn sweep_ends()
     ensures { SweepEnds }
+{}
+
+/// When no object can go the driver may be through with the file.
+pub fn sweep_leaves()
+    ensures { SweepLeaves }
+{}
+
+/// While an object is live, one of the file's can go.
+pub fn finds_free()
+    ensures { FindsFree }
 {}
 
 /// A file that was opened stands open.

@@ -1,4 +1,4 @@
-use Rattle.uv_machine.proofs.Judged.{IsJudged-start, HasRoom-judged, IsJudged-next, IsFirstBad-judged, IsLegal-judged}
+use Rattle.uv_machine.proofs.Judged.{IsJudged-start, IsJudged-next, IsFirstBad-judged, IsLegal-judged}
 use Rattle.uv_machine.proofs.judging.first_bad.Goals as goal
 
 pub loop-place-init : goal.loop-place-init
@@ -7,9 +7,6 @@ loop-place-init c = IsJudged-start _ _ c.in_ok-state.ensures
 pub returns-then-not-allows : goal.returns-then-not-allows
 returns-then-not-allows c =
     IsFirstBad-judged _ _ _ _ c.loop-place-test.true c.loop-place.invariant (λ allowed. (let yes = c.allows.ensures.1 allowed in let no = c.if-not-allows.true in cc))
-
-pub apply-requires : goal.apply-requires
-apply-requires c = HasRoom-judged _ _ _ _ c.loop-place-test.true c.loop-place.invariant (c.allows.ensures.0 c.if-not-allows.false)
 
 pub loop-place-preserved : goal.loop-place-preserved
 loop-place-preserved c =
