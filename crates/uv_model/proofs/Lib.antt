@@ -1,2 +1,1 @@
-pub mod Releasing
-pub mod Replaying
+pub mod Bads

@@ -2,7 +2,7 @@
 use Rattle.std.specs.Prelude.{ℕ, ◌+◌, Bool, true, false, ◌||◌, ◌==◌, List, [], ◌∷◌, ◌++◌, Option, None, Some, if◌then◌else◌, take, drop, slice_get, option_map, option_to_list}
 use Rattle.uv_num.specs.declared.limits.TheConstants.{ENDER}
 use Rattle.uv_machine.specs.declared.entry.Entry.{Entry}
-use Rattle.uv_machine.specs.declared.entry.Entry.TheVariants.{Open, Enter, Step, Tear, Kill, Gone, Closed}
+use Rattle.uv_machine.specs.declared.entry.Entry.TheVariants.{Open, Enter, Step, Unplug, Tear, Kill, Gone, Dissociated, Closed}
 use Rattle.uv_machine.specs.declared.object.Object.{Object}
 use Rattle.uv_machine.specs.declared.state.State.{State}
 use Rattle.uv_machine.specs.States.{object_with, start}
@@ -17,9 +17,11 @@ abbrev pub torn_file : Entry → Option ℕ
 torn_file (Open c f d a) = None
 torn_file (Enter c f request a) = None
 torn_file (Step c w o found a) = None
+torn_file (Unplug d) = None
 torn_file (Tear f by) = Some f
 torn_file (Kill o) = None
 torn_file (Gone o kept) = None
+torn_file (Dissociated f) = None
 torn_file (Closed f) = None
 
 -- the entry ends the teardown of this file
@@ -27,9 +29,11 @@ abbrev pub ends_teardown : ℕ → Entry → Bool
 ends_teardown g (Open c f d a) = false
 ends_teardown g (Enter c f request a) = false
 ends_teardown g (Step c w o found a) = false
+ends_teardown g (Unplug d) = false
 ends_teardown g (Tear f by) = false
 ends_teardown g (Kill o) = false
 ends_teardown g (Gone o kept) = false
+ends_teardown g (Dissociated f) = f == g
 ends_teardown g (Closed f) = f == g
 
 -- an object, if it is of this file
@@ -42,9 +46,11 @@ abbrev pub gone_in : State → ℕ → Entry → List Left
 gone_in m g (Open c f d a) = []
 gone_in m g (Enter c f request a) = []
 gone_in m g (Step c w o found a) = []
+gone_in m g (Unplug d) = []
 gone_in m g (Tear f by) = []
 gone_in m g (Kill o) = []
 gone_in m g (Gone o kept) = of_file g (object_with m o)
+gone_in m g (Dissociated f) = []
 gone_in m g (Closed f) = []
 
 -- the objects of a file that go among some entries, until its teardown ends
@@ -80,9 +86,11 @@ abbrev pub begins : Entry → Bool
 begins (Open c f d a) = false
 begins (Enter c f request a) = false
 begins (Step c w o found a) = false
+begins (Unplug d) = false
 begins (Tear f by) = by == ENDER
 begins (Kill o) = false
 begins (Gone o kept) = false
+begins (Dissociated f) = false
 begins (Closed f) = false
 
 -- an object that is released, once the end has begun
@@ -95,9 +103,11 @@ abbrev pub gone_by : State → Bool → Entry → List Left
 gone_by m begun (Open c f d a) = []
 gone_by m begun (Enter c f request a) = []
 gone_by m begun (Step c w o found a) = []
+gone_by m begun (Unplug d) = []
 gone_by m begun (Tear f by) = []
 gone_by m begun (Kill o) = []
 gone_by m begun (Gone o kept) = gone_object m begun o
+gone_by m begun (Dissociated f) = []
 gone_by m begun (Closed f) = []
 
 -- what was seen behind one more entry

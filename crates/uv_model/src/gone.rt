@@ -2,7 +2,7 @@
 
 ghost use Rattle.std.specs.Prelude.{◌≡◌, ◌≤◌, ◌++◌, ◌||◌, IfOk, OnOk, IsSome, length, slice_get, take, drop};
 ghost use Rattle.std.specs.Option.{option_copied};
-ghost use Rattle.uv_machine.specs.Histories.{IsLegal, state_of};
+ghost use Rattle.uv_machine.specs.Histories.{state_of};
 ghost use Rattle.uv_machine.specs.States.{object_with};
 ghost use Rattle.uv_model.specs.Gone.{torn_file, ends_teardown, of_file, gone_in, gone_until, torn_at, gone_after, begins, gone_object, gone_by, gone_of};
 
@@ -21,8 +21,7 @@ pub fn gone_after(
     history: &List<Entry>,
     place: u64,
 ) -> Result<List<Left>, AllocError>
-    requires legal { IsLegal history.now }
-    requires tear { IsSome (torn_at (slice_get history.now place)) }
+    requires { IsSome (torn_at (slice_get history.now place)) }
     ensures { IfOk result (λ l. l ≡ gone_after history.now place) }
 {
     let entries = history.as_slice();
@@ -51,8 +50,10 @@ fn torn_file(entry: Entry) -> Option<u32>
         Entry::Open { .. }
         | Entry::Enter { .. }
         | Entry::Step { .. }
+        | Entry::Unplug { .. }
         | Entry::Kill { .. }
         | Entry::Gone { .. }
+        | Entry::Dissociated { .. }
         | Entry::Closed { .. } => None,
     }
 }
@@ -64,7 +65,6 @@ fn gone_behind(
     behind: &[Entry],
     file: u32,
 ) -> Result<List<Left>, AllocError>
-    requires { IsLegal (before.now ++ behind.now) }
     ensures { IfOk result (λ l. l ≡ gone_until (state_of before.now) file behind.now) }
 {
     let mut state = replayed(alloc, before)?;
@@ -84,10 +84,12 @@ fn ends_teardown(entry: Entry, file: u32) -> bool
     ensures { result ≡ ends_teardown file entry }
 {
     match entry {
+        Entry::Dissociated { file: left } => left == file,
         Entry::Closed { file: closed } => closed == file,
         Entry::Open { .. }
         | Entry::Enter { .. }
         | Entry::Step { .. }
+        | Entry::Unplug { .. }
         | Entry::Tear { .. }
         | Entry::Kill { .. }
         | Entry::Gone { .. } => false,
@@ -108,8 +110,10 @@ fn put_gone_in(
         Entry::Open { .. }
         | Entry::Enter { .. }
         | Entry::Step { .. }
+        | Entry::Unplug { .. }
         | Entry::Tear { .. }
         | Entry::Kill { .. }
+        | Entry::Dissociated { .. }
         | Entry::Closed { .. } => Ok(()),
     }
 }
@@ -132,14 +136,12 @@ fn put_of_file(gone: &mut List<Left>, file: u32, x: Option<Object>) -> Result<()
 /// The objects that went when the end of the script closed the files, in the order in which they went. The history is made
 /// again from its beginning. Its only error is want of memory. This project's own.
 pub fn gone_at_end(alloc: Global, history: &List<Entry>) -> Result<List<Left>, AllocError>
-    requires { IsLegal history.now }
     ensures { IfOk result (λ l. l ≡ gone_of history.now) }
 {
     gone_in_end(alloc, history.as_slice())
 }
 
 fn gone_in_end(alloc: Global, entries: &[Entry]) -> Result<List<Left>, AllocError>
-    requires { IsLegal entries.now }
     ensures { IfOk result (λ l. l ≡ gone_of entries.now) }
 {
     let mut state = State::new(alloc)?;
@@ -168,8 +170,10 @@ fn begins(entry: Entry) -> bool
         Entry::Open { .. }
         | Entry::Enter { .. }
         | Entry::Step { .. }
+        | Entry::Unplug { .. }
         | Entry::Kill { .. }
         | Entry::Gone { .. }
+        | Entry::Dissociated { .. }
         | Entry::Closed { .. } => false,
     }
 }
@@ -188,8 +192,10 @@ fn put_gone_by(
         Entry::Open { .. }
         | Entry::Enter { .. }
         | Entry::Step { .. }
+        | Entry::Unplug { .. }
         | Entry::Tear { .. }
         | Entry::Kill { .. }
+        | Entry::Dissociated { .. }
         | Entry::Closed { .. } => Ok(()),
     }
 }

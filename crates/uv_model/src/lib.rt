@@ -1,16 +1,18 @@
 //! The object-graph machine under the name that the layers above know, and what its histories tell.
 //!
-//! `standing` tells what stands at a place of a history, `gone_after` what one teardown released, and `gone_at_end` what
+//! `judge` says whether a history is legal, and else where it is bad first. `standing` tells what stands at a place of a history, `gone_after` what one teardown released, and `gone_at_end` what
 //! went when the end of a script closed the files. The words and definitions of `uv_machine` are passed on.
 #![tactic(auto)]
 
 mod gone;
+mod judging;
 mod left;
 mod replays;
 #[cfg(test)]
 mod tests;
 
 pub use gone::{gone_after, gone_at_end};
+pub use judging::{Verdict, judge};
 pub use left::{Left, left_in};
 pub use replays::standing;
 pub use uv_machine::{

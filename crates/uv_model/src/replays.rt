@@ -1,7 +1,7 @@
-//! The state behind the entries of a legal history, made again from the beginning, and what stands in it.
+//! The state behind the entries of a history, made again from the beginning, and what stands in it.
 
 ghost use Rattle.std.specs.Prelude.{◌≡◌, ◌≤◌, IfOk, length};
-ghost use Rattle.uv_machine.specs.Histories.{IsLegal, state_of};
+ghost use Rattle.uv_machine.specs.Histories.{state_of};
 ghost use Rattle.uv_model.specs.Standing.{standing_at};
 
 use crate::left::{Left, left_in};
@@ -13,8 +13,7 @@ use uv_num::List;
 /// released, doesn't stand. The history is made again from its beginning. Its only error is want of memory. This project's
 /// own.
 pub fn standing(alloc: Global, history: &List<Entry>, place: u64) -> Result<List<Left>, AllocError>
-    requires legal { IsLegal history.now }
-    requires within { place ≤ length history.now }
+    requires { place ≤ length history.now }
     ensures { IfOk result (λ l. l ≡ standing_at history.now place) }
 {
     let before = &history.as_slice()[..place as usize];
@@ -24,7 +23,6 @@ pub fn standing(alloc: Global, history: &List<Entry>, place: u64) -> Result<List
 
 /// The state behind all of these entries.
 pub fn replayed(alloc: Global, entries: &[Entry]) -> Result<State, AllocError>
-    requires { IsLegal entries.now }
     ensures { IfOk result (λ m. m ≡ state_of entries.now) }
 {
     let mut state = State::new(alloc)?;

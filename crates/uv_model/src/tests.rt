@@ -1,10 +1,10 @@
 //! Histories with two files, written out by hand.
 
-use crate::{Answer, Entry, Left, Word, first_bad, gone_after, gone_at_end, standing};
+use crate::{Answer, Entry, Left, Verdict, Word, gone_after, gone_at_end, judge, standing};
 use std::alloc::{AllocError, Global};
 use std::process::Abort;
 use std::test::Fail;
-use uv_num::{Kind, List, NONE, Request};
+use uv_num::{DRIVER, Kind, List, NONE, Request};
 
 fn opens(client: u32, file: u32) -> Entry {
     Entry::Open {
@@ -123,6 +123,28 @@ fn closed_at_the_end(alloc: Global) -> Result<List<Entry>, AllocError> {
     Ok(history)
 }
 
+/// Client 1 makes domain 0 on file 0, whose device is pulled; the driver is through with the file, and the client closes it.
+///
+/// 0 Open, 1 to 5 domain 0, 6 Unplug, 7 Tear by the driver, 8 Kill 0, 9 Gone 0, 10 Dissociated, 11 Tear, 12 Closed.
+fn unplugged(alloc: Global) -> Result<List<Entry>, AllocError> {
+    let mut history = List::new(alloc);
+    history.push(opens(1, 0))?;
+    history.extend(&alloc_pd(1, 0, 0, 0))?;
+    history.extend(&[
+        Entry::Unplug { device: 0 },
+        Entry::Tear {
+            file: 0,
+            by: DRIVER,
+        },
+        kill(0),
+        gone(0),
+        Entry::Dissociated { file: 0 },
+        Entry::Tear { file: 0, by: 1 },
+        Entry::Closed { file: 0 },
+    ])?;
+    Ok(history)
+}
+
 fn domain(file: u32, handle: u32) -> Left {
     Left {
         file,
@@ -139,8 +161,8 @@ fn expect_standing(
     place: u64,
     want: &[Left],
 ) -> Result<(), AllocError> {
-    let bad = first_bad(alloc, history.as_slice())?;
-    assert!(rt; bad.is_none());
+    let verdict = judge(alloc, history);
+    assert_eq!(rt; verdict, Verdict::Legal);
     assert!(rt; place <= history.len() as u64);
     let told = standing(alloc, history, place)?;
     assert_eq!(rt; told.as_slice(), want, "at {place}");
@@ -155,8 +177,8 @@ fn expect_gone(
     place: u64,
     want: &[Left],
 ) -> Result<(), AllocError> {
-    let bad = first_bad(alloc, history.as_slice())?;
-    assert!(rt; bad.is_none());
+    let verdict = judge(alloc, history);
+    assert_eq!(rt; verdict, Verdict::Legal);
     if let Some(Entry::Tear { .. }) = history.get(place as usize) {
         let told = gone_after(alloc, history, place)?;
         assert_eq!(rt; told.as_slice(), want, "behind {place}");
@@ -172,8 +194,8 @@ fn expect_gone_at_end(
     history: &List<Entry>,
     want: &[Left],
 ) -> Result<(), AllocError> {
-    let bad = first_bad(alloc, history.as_slice())?;
-    assert!(rt; bad.is_none());
+    let verdict = judge(alloc, history);
+    assert_eq!(rt; verdict, Verdict::Legal);
     let told = gone_at_end(alloc, history)?;
     assert_eq!(rt; told.as_slice(), want);
     Ok(())
@@ -233,5 +255,61 @@ fn the_end_of_a_script_releases_what_is_left(rt: HostRuntime) -> Result<(), Fail
     expect_gone(&rt, rt.alloc(), &history, 31, &[domain(0, 1), domain(0, 0)])?;
     expect_gone_at_end(&rt, rt.alloc(), &history, &[domain(0, 1), domain(0, 0)])?;
     expect_gone_at_end(&rt, rt.alloc(), &List::new(rt.alloc()), &[])?;
+    Ok(())
+}
+
+#[test]
+fn a_teardown_of_the_driver_ends_as_it_leaves_the_file(rt: HostRuntime) -> Result<(), Fail> {
+    let history = unplugged(rt.alloc())?;
+    expect_gone(&rt, rt.alloc(), &history, 7, &[domain(0, 0)])?;
+    expect_gone(&rt, rt.alloc(), &history, 11, &[])?;
+    expect_standing(&rt, rt.alloc(), &history, 9, &[domain(0, 0)])?;
+    expect_standing(&rt, rt.alloc(), &history, 10, &[])?;
+    Ok(())
+}
+
+/// The verdict on the first entries of the pulled device's history, and these behind them.
+fn expect_verdict(
+    rt: &impl Abort,
+    alloc: Global,
+    first: usize,
+    behind: &[Entry],
+    want: Verdict,
+) -> Result<(), AllocError> {
+    let whole = unplugged(alloc)?;
+    let mut history = List::new(alloc);
+    for entry in whole.as_slice().iter().take(first) {
+        history.push(*entry)?;
+    }
+    history.extend(behind)?;
+    assert_eq!(rt; judge(alloc, &history), want, "behind {first}");
+    Ok(())
+}
+
+#[test]
+fn the_judge_names_the_first_bad_place(rt: HostRuntime) -> Result<(), Fail> {
+    let pulled = Entry::Unplug { device: 0 };
+    let torn = Entry::Tear {
+        file: 0,
+        by: DRIVER,
+    };
+    let left = Entry::Dissociated { file: 0 };
+    let closed = Entry::Closed { file: 0 };
+    let rows: [(usize, &[Entry], Verdict); 9] = [
+        (0, &[], Verdict::Legal),
+        (13, &[], Verdict::Legal),
+        (0, &[closed], Verdict::Bad { place: 0 }),
+        // The driver tears no file of a device that is there, and what comes behind that isn't looked at.
+        (6, &[torn, pulled, torn], Verdict::Bad { place: 6 }),
+        (7, &[pulled, torn], Verdict::Bad { place: 7 }),
+        (8, &[torn], Verdict::Bad { place: 8 }),
+        // The driver is not through while a domain stands, and closes no file.
+        (9, &[left], Verdict::Bad { place: 9 }),
+        (10, &[closed, left], Verdict::Bad { place: 10 }),
+        (13, &[opens(1, 0), closed], Verdict::Bad { place: 13 }),
+    ];
+    for (first, behind, want) in rows.iter() {
+        expect_verdict(&rt, rt.alloc(), *first, behind, *want)?;
+    }
     Ok(())
 }
