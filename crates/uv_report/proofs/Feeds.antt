@@ -17,8 +17,8 @@ use Rattle.uv_script.specs.Lines.{lines_of}
 use Rattle.uv_model.specs.declared.left.Left.{Left}
 use Rattle.uv_model.specs.Gone.{gone_of}
 use Rattle.uv_report.specs.declared.record.Said.{Said}
-use Rattle.uv_report.specs.declared.saying.StepWord.{StepWord}
-use Rattle.uv_report.specs.declared.saying.StepWord.TheVariants as step
+use Rattle.uv_machine.specs.declared.entry.Word.{Word}
+use Rattle.uv_machine.specs.declared.entry.Word.TheVariants as step
 use Rattle.uv_report.specs.declared.saying.Tearer.{Tearer}
 use Rattle.uv_report.specs.declared.saying.Tearer.TheVariants.{Client, Driver}
 use Rattle.uv_report.specs.declared.saying.Saying.{Saying}
@@ -101,7 +101,7 @@ inside_state qp.Rtr = said _ refl
 inside_state qp.Rts = said _ refl
 inside_state qp.Err = said _ refl
 
-inside_step : (w : StepWord) → IsInside (step_name w)
+inside_step : (w : Word) → IsInside (step_name w)
 inside_step step.Reserve = said _ refl
 inside_step step.Look = said _ refl
 inside_step step.Make = said _ refl

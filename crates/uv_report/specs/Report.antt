@@ -10,8 +10,8 @@ use Rattle.uv_model.specs.declared.left.Left.{Left}
 use Rattle.uv_model.specs.Gone.{gone_of}
 use Rattle.uv_report.specs.declared.record.Said.{Said}
 use Rattle.uv_report.specs.declared.record.Record.{Record}
-use Rattle.uv_report.specs.declared.saying.StepWord.{StepWord}
-use Rattle.uv_report.specs.declared.saying.StepWord.TheVariants as step
+use Rattle.uv_machine.specs.declared.entry.Word.{Word}
+use Rattle.uv_machine.specs.declared.entry.Word.TheVariants as step
 use Rattle.uv_report.specs.declared.saying.Tearer.{Tearer}
 use Rattle.uv_report.specs.declared.saying.Tearer.TheVariants.{Client, Driver}
 use Rattle.uv_report.specs.declared.saying.Saying.{Saying}
@@ -34,7 +34,7 @@ state_name qp.Rts = codes "RTS"
 state_name qp.Err = codes "ERR"
 
 -- the word of a step
-abbrev pub step_name : StepWord → List ℕ
+abbrev pub step_name : Word → List ℕ
 step_name step.Reserve = codes "reserve"
 step_name step.Look = codes "look"
 step_name step.Make = codes "make"

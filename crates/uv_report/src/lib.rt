@@ -14,4 +14,4 @@ mod texts;
 pub use laws::report_is_its_lines;
 pub use record::{Record, Said};
 pub use report::write;
-pub use saying::{Saying, StepWord, Tearer};
+pub use saying::{Saying, Tearer};

@@ -1,7 +1,6 @@
 //! A whole report.
 
 ghost use Rattle.std.specs.Prelude.{◌≡◌, ◌++◌, flat_map, string_bytes, IfOk, OnOk};
-ghost use Rattle.uv_model.specs.Histories.{IsLegal};
 ghost use Rattle.uv_report.specs.Report.{report_of, said_line, left_line, gone_line};
 
 use crate::texts::Named;
@@ -19,7 +18,6 @@ use uv_script::Script;
 /// that. The text is one buffer that grows by doubling, so time and memory grow with the lengths of the report and of the
 /// history. Its only error is want of memory.
 pub fn write(alloc: Global, _script: &Script, told: &Record) -> Result<Bytes, AllocError>
-    requires { IsLegal told.now.history }
     ensures { IfOk result (λ b. b.bytes ≡ report_of told.now) }
 {
     let gone = gone_at_end(alloc, &told.history)?;

@@ -1,34 +1,8 @@
 //! The texts of a report, as plain data.
 
+use uv_machine::Word;
 use uv_model::Left;
 use uv_num::{Errno, QpState};
-
-/// The word of a step of a call.
-#[derive(Clone, Copy, Debug, PartialEq, Eq)]
-pub enum StepWord {
-    /// A handle's number is set aside.
-    Reserve,
-    /// An object that the call names is looked up and held.
-    Look,
-    /// The object is made.
-    Make,
-    /// The object is published.
-    Commit,
-    /// What the call is for is done to an object that stays.
-    Act,
-    /// The object to be destroyed is locked.
-    Lock,
-    /// It is seen whether another object uses it.
-    Check,
-    /// The object leaves.
-    Finish,
-    /// A number that was set aside goes back.
-    Abort,
-    /// An object that was held is let go.
-    Free,
-    /// The call ends.
-    Exit,
-}
 
 /// Who tears a file down.
 #[derive(Clone, Copy, Debug, PartialEq, Eq)]
@@ -76,7 +50,7 @@ pub enum Saying {
     /// A call in flight made this step, which may have been refused.
     Step {
         /// The step's word.
-        word: StepWord,
+        word: Word,
         /// Its refusal, if it was refused.
         refusal: Option<Errno>,
     },

@@ -3,29 +3,28 @@
 ghost use Rattle.std.specs.Prelude.{◌≡◌, Some};
 ghost use Rattle.uv_report.specs.Report.{state_name, step_name};
 
-use crate::{Saying, StepWord, Tearer};
+use crate::{Saying, Tearer};
 use std::fmt;
+use uv_machine::Word;
 use uv_model::Left;
 use uv_num::{Errno, QpState};
 
-impl StepWord {
-    /// The word that reports print.
-    pub fn name(self) -> &'static str
-        ensures { result.now ≡ step_name self }
-    {
-        match self {
-            StepWord::Reserve => "reserve",
-            StepWord::Look => "look",
-            StepWord::Make => "make",
-            StepWord::Commit => "commit",
-            StepWord::Act => "act",
-            StepWord::Lock => "lock",
-            StepWord::Check => "check",
-            StepWord::Finish => "finish",
-            StepWord::Abort => "abort",
-            StepWord::Free => "free",
-            StepWord::Exit => "exit",
-        }
+/// The word of a step, as reports print it.
+fn step_name(word: Word) -> &'static str
+    ensures { result.now ≡ step_name word }
+{
+    match word {
+        Word::Reserve => "reserve",
+        Word::Look => "look",
+        Word::Make => "make",
+        Word::Commit => "commit",
+        Word::Act => "act",
+        Word::Lock => "lock",
+        Word::Check => "check",
+        Word::Finish => "finish",
+        Word::Abort => "abort",
+        Word::Free => "free",
+        Word::Exit => "exit",
     }
 }
 
@@ -122,7 +121,7 @@ impl fmt::Display for Saying {
             Saying::DeviceFatal => f.write_str("ok DEVICE_FATAL"),
             Saying::Refused(errno) => f.write_str(errno.name()),
             Saying::Began => f.write_str("began"),
-            Saying::Step { word, refusal } => write!(f, "{}{}", word.name(), Refusal(refusal)),
+            Saying::Step { word, refusal } => write!(f, "{}{}", step_name(word), Refusal(refusal)),
             Saying::Tear(file) => write!(f, "tear f{file}"),
             Saying::Kill(x) => write!(f, "kill {}", Named(x)),
             Saying::Gone(x) => write!(f, "gone {}", Named(x)),

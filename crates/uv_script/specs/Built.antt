@@ -1,9 +1,9 @@
--- The requests that a line can make today: those that the machine has a plan for.
+-- The requests that a line can make today.
 use Rattle.std.specs.Prelude.{Bool, true, false}
 use Rattle.uv_num.specs.declared.request.Request.{Request}
 use Rattle.uv_num.specs.declared.request.Request.TheVariants.{AllocPd, DeallocPd, CreateChannel, DestroyChannel, CreateCq, DestroyCq, CreateQp, DestroyQp, ModifyQp, QueryQp, CreateSrq, DestroySrq, CreateAh, DestroyAh, RegMr, DeregMr, AllocMw, DeallocMw, BindMw, GetAsync}
 
--- whether the line of a request is built. It is the set of `has_plan` of the machine, which scripts don't see
+-- whether the line of a request is built
 abbrev pub is_built : Request → Bool
 is_built AllocPd = true
 is_built (DeallocPd pd) = true

@@ -1,7 +1,7 @@
 //! Whole reports, typed by hand.
 
 use super::*;
-use crate::{Saying, StepWord};
+use crate::Saying;
 use std::process::Abort;
 use std::test::Fail;
 use uv_model::{Answer, Entry, Word, first_bad};
@@ -117,7 +117,7 @@ fn a_report_tells_replies_what_was_left_and_what_went(rt: HostRuntime) -> Result
         said(
             7,
             Saying::Step {
-                word: StepWord::Lock,
+                word: Word::Lock,
                 refusal: Some(Errno::NoEnt),
             },
         ),

@@ -14,14 +14,14 @@ fn expect_texts(rt: &impl Abort, alloc: Global, rows: &[(Saying, &str)]) -> Resu
     Ok(())
 }
 
-fn fine(word: StepWord) -> Saying {
+fn fine(word: Word) -> Saying {
     Saying::Step {
         word,
         refusal: None,
     }
 }
 
-fn refused(word: StepWord, errno: Errno) -> Saying {
+fn refused(word: Word, errno: Errno) -> Saying {
     Saying::Step {
         word,
         refusal: Some(errno),
@@ -80,23 +80,23 @@ fn refusals_tell_their_errno(rt: HostRuntime) -> Result<(), Fail> {
 fn steps_tell_their_word_and_a_refusal(rt: HostRuntime) -> Result<(), Fail> {
     let rows = [
         (Saying::Began, "began"),
-        (fine(StepWord::Reserve), "reserve"),
-        (fine(StepWord::Look), "look"),
-        (fine(StepWord::Make), "make"),
-        (fine(StepWord::Commit), "commit"),
-        (fine(StepWord::Act), "act"),
-        (fine(StepWord::Lock), "lock"),
-        (fine(StepWord::Check), "check"),
-        (fine(StepWord::Finish), "finish"),
-        (fine(StepWord::Abort), "abort"),
-        (fine(StepWord::Free), "free"),
-        (fine(StepWord::Exit), "exit"),
-        (refused(StepWord::Reserve, Errno::NoSpc), "reserve ENOSPC"),
-        (refused(StepWord::Look, Errno::NoEnt), "look ENOENT"),
-        (refused(StepWord::Act, Errno::Inval), "act EINVAL"),
-        (refused(StepWord::Lock, Errno::Io), "lock EIO"),
-        (refused(StepWord::Check, Errno::Busy), "check EBUSY"),
-        (refused(StepWord::Exit, Errno::Busy), "exit EBUSY"),
+        (fine(Word::Reserve), "reserve"),
+        (fine(Word::Look), "look"),
+        (fine(Word::Make), "make"),
+        (fine(Word::Commit), "commit"),
+        (fine(Word::Act), "act"),
+        (fine(Word::Lock), "lock"),
+        (fine(Word::Check), "check"),
+        (fine(Word::Finish), "finish"),
+        (fine(Word::Abort), "abort"),
+        (fine(Word::Free), "free"),
+        (fine(Word::Exit), "exit"),
+        (refused(Word::Reserve, Errno::NoSpc), "reserve ENOSPC"),
+        (refused(Word::Look, Errno::NoEnt), "look ENOENT"),
+        (refused(Word::Act, Errno::Inval), "act EINVAL"),
+        (refused(Word::Lock, Errno::Io), "lock EIO"),
+        (refused(Word::Check, Errno::Busy), "check EBUSY"),
+        (refused(Word::Exit, Errno::Busy), "exit EBUSY"),
     ];
     expect_texts(&rt, rt.alloc(), &rows)?;
     Ok(())
