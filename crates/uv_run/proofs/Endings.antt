@@ -13,42 +13,44 @@ use Rattle.uv_machine.specs.States.{call_of, phase_of, newest_free, is_callable,
 use Rattle.uv_machine.specs.Outside.{may_tear}
 use Rattle.uv_machine.specs.Histories.{Allowed, IsLegal, state_of}
 use Rattle.uv_machine.specs.Calls.{calls_of}
-use Rattle.uv_machine.specs.Laws.{IsSwept, standing_count, moves}
+use Rattle.uv_machine.specs.Laws.{IsSwept, is_of, standing_count, moves}
 use Rattle.uv_run.specs.Between.{IsBetween, IsFreshOrOpen}
 use Rattle.uv_run.specs.Ended.{HasSwept, LeavesOthers, IsSweeping, IsBefore, IsEnding}
 use Rattle.uv_run.specs.Playing.{with_kill, one_sweep, sweeps_of, Closes, ClosesOpen, ClosesAll, all_files, Ends}
 use Rattle.uv_run.proofs.Snocs.{calls_of-snoc, not_one}
-use Rattle.uv_run.proofs.MachineLaws.{state_goes_on, calls_stand_apart, files_stand_apart, sweep_begins, sweep_kills, sweep_releases, sweep_goes_on, sweep_ends}
+use Rattle.uv_run.proofs.MachineLaws.{state_goes_on, calls_stand_apart, files_stand_apart, idle_is_quiet, sweep_begins, sweep_kills, sweep_releases, sweep_goes_on, sweep_ends}
 
 -- What one more entry leaves.
 
 -- an entry that moves no other file and is no call's
-leaves-snoc : (h : List Entry) (f : ℕ) (e : Entry) → ((g : ℕ) → g ≢ f → moves g e ≡ false) → ((c : ℕ) → calls_of (h ++ e ∷ []) c ≡ calls_of h c) → LeavesOthers h f (h ++ e ∷ [])
-leaves-snoc h f e others calls = record {
+leaves-snoc : (h : List Entry) (f : ℕ) (e : Entry) → ((g : ℕ) → g ≢ f → moves g e ≡ false) → ((b : ℕ) → is_of b e ≡ false) → ((c : ℕ) → calls_of (h ++ e ∷ []) c ≡ calls_of h c) → LeavesOthers h f (h ++ e ∷ [])
+leaves-snoc h f e others none calls = record {
   phases = λ g ne. ap (λ v. phase_of v g) (state_goes_on h e) ∙ files_stand_apart (state_of h) e g (others g ne);
+  flights = λ b. ap (λ v. call_of v b) (state_goes_on h e) ∙ calls_stand_apart (state_of h) e b (none b);
   calls = calls;
 }
 
 leaves-more : (h h1 h2 : List Entry) (f : ℕ) → LeavesOthers h f h1 → LeavesOthers h1 f h2 → LeavesOthers h f h2
 leaves-more h h1 h2 f first second = record {
   phases = λ g ne. second.phases g ne ∙ first.phases g ne;
+  flights = λ b. second.flights b ∙ first.flights b;
   calls = λ c. second.calls c ∙ first.calls c;
 }
 
 leaves-none : (h : List Entry) (f : ℕ) → LeavesOthers h f h
-leaves-none h f = record { phases = λ g ne. refl; calls = λ c. refl }
+leaves-none h f = record { phases = λ g ne. refl; flights = λ b. refl; calls = λ c. refl }
 
 tear-leaves : (h : List Entry) (f by : ℕ) → LeavesOthers h f (h ++ Tear f by ∷ [])
-tear-leaves h f by = leaves-snoc h f (Tear f by) (λ g ne. not_one f g ne) (λ c. calls_of-snoc h (Tear f by) c)
+tear-leaves h f by = leaves-snoc h f (Tear f by) (λ g ne. not_one f g ne) (λ b. refl) (λ c. calls_of-snoc h (Tear f by) c)
 
 closed-leaves : (h : List Entry) (f : ℕ) → LeavesOthers h f (h ++ Closed f ∷ [])
-closed-leaves h f = leaves-snoc h f (Closed f) (λ g ne. not_one f g ne) (λ c. calls_of-snoc h (Closed f) c)
+closed-leaves h f = leaves-snoc h f (Closed f) (λ g ne. not_one f g ne) (λ b. refl) (λ c. calls_of-snoc h (Closed f) c)
 
 turn-leaves : (h : List Entry) (f o kept : ℕ) → LeavesOthers h f ((h ++ Kill o ∷ []) ++ Gone o kept ∷ [])
 turn-leaves h f o kept =
     leaves-more h (h ++ Kill o ∷ []) ((h ++ Kill o ∷ []) ++ Gone o kept ∷ []) f
-    (leaves-snoc h f (Kill o) (λ g ne. refl) (λ c. calls_of-snoc h (Kill o) c))
-    (leaves-snoc (h ++ Kill o ∷ []) f (Gone o kept) (λ g ne. refl) (λ c. calls_of-snoc (h ++ Kill o ∷ []) (Gone o kept) c))
+    (leaves-snoc h f (Kill o) (λ g ne. refl) (λ b. refl) (λ c. calls_of-snoc h (Kill o) c))
+    (leaves-snoc (h ++ Kill o ∷ []) f (Gone o kept) (λ g ne. refl) (λ b. refl) (λ c. calls_of-snoc (h ++ Kill o ∷ []) (Gone o kept) c))
 
 -- The tear.
 
@@ -74,7 +76,7 @@ unfolding sweeps_of
 sweeping_begins h g f before within open_now more =
     let P : List Entry → Type 0 = λ v. IsSweeping v f v in
     subst P (sym more) record {
-      swept = sweep_begins h f ENDER before.legal before.idle open_now (tear_allowed (state_of h) f within open_now);
+      swept = sweep_begins h f ENDER before.legal (idle_is_quiet (state_of h) f before.idle) (tear_allowed (state_of h) f within open_now);
       sweeps = record { count = 0; made = refl };
       others = leaves-none (h ++ Tear f ENDER ∷ []) f;
     }
@@ -146,14 +148,11 @@ module _ (h torn swept g : List Entry) (f : ℕ) (begun : torn ≡ h ++ Tear f E
   pub calls_stay : (c : ℕ) → calls_of g c ≡ calls_of h c
   calls_stay = others_stay.calls
 
-  idle_still : (b : ℕ) → call_of (state_of g) b ≡ None
-  idle_still b = ap (λ v. call_of (state_of v) b) ended ∙ ap (λ v. call_of v b) (state_goes_on swept (Closed f)) ∙ calls_stand_apart (state_of swept) (Closed f) b refl ∙ s.swept.idle b
-
   -- the files behind it stay
   pub before_next : IsBefore h f → IsLegal g → IsBefore g (f + 1)
   before_next before legal = record {
     legal = legal;
-    idle = idle_still;
+    idle = λ b. others_stay.flights b ∙ before.idle b;
     phases = λ k above. subst IsFreshOrOpen (sym (others_stay.phases k (λ e. omega (arith, above, e)))) (before.phases k (omega (arith, above)));
   }
 

@@ -1,14 +1,14 @@
 -- The machine with its stored history, entry by entry.
 use Rattle.std.proofs.Common.{◌≡◌, ℕ, ◌+◌, ◌-◌, ◌≤◌, ◌<◌, List, [], ◌∷◌, ◌++◌, refl, sym, ap, subst, ◌∙◌, arith}
+use Rattle.uv_num.specs.declared.limits.TheConstants.{DEVICES}
 use Rattle.uv_machine.specs.declared.entry.Entry.{Entry}
 use Rattle.uv_machine.specs.declared.state.State.{State}
 use Rattle.uv_machine.specs.States.{start}
 use Rattle.uv_machine.specs.Cells.{full_pool}
-use Rattle.uv_machine.specs.Laws.{HasRoom}
 use Rattle.uv_machine.specs.Histories.{Allowed, after, state_of}
 use Rattle.uv_machine.specs.Accounts.{owed, costs}
 use Rattle.uv_run.specs.Kept.{IsKept}
-use Rattle.uv_run.proofs.MachineLaws.{state_goes_on, legal_goes_on, make_has_room, owed_covers}
+use Rattle.uv_run.proofs.MachineLaws.{state_goes_on, legal_goes_on, owed_covers}
 
 -- what an entry owes is covered, seen from the state beside the history
 pub covers : (m n : State) (h : List Entry) (e : Entry) → m ≡ state_of h → Allowed (state_of h) e → n ≡ after m e → owed n + 1 ≤ owed m + costs e
@@ -43,19 +43,13 @@ room_there m h r e kept allowed room =
     let before : owed m ≤ r = kept.covered in
     omega (arith, covered, before, room)
 
--- an accepted Make finds room among the objects
-pub objects_there : (m : State) (h : List Entry) (r : ℕ) (e : Entry) → IsKept m h r → Allowed (state_of h) e → HasRoom m e
-objects_there m h r e kept allowed =
-    let P : State → Type 0 = λ s. HasRoom s e in
-    subst P (sym kept.replays) (make_has_room h e kept.legal allowed)
-
-owed_start : owed start ≡ 0
+owed_start : owed start ≡ DEVICES
 unfolding start full_pool
 owed_start = refl
 
--- nothing is owed at the start
-pub kept_start : (m : State) (h : List Entry) (r : ℕ) → m ≡ start → h ≡ [] → IsKept m h r
-kept_start m h r fresh none =
+-- at the start each device can be pulled, and nothing else is owed
+pub kept_start : (m : State) (h : List Entry) (r : ℕ) → m ≡ start → h ≡ [] → r ≡ DEVICES → IsKept m h r
+kept_start m h r fresh none room =
     let P : List Entry → Type 0 = λ v. IsKept m v r in
-    let nothing : owed m ≡ 0 = ap owed fresh ∙ owed_start in
-    subst P (sym none) record { replays = fresh; legal = tt; covered = omega (arith, nothing) }
+    let devices : owed m ≡ DEVICES = ap owed fresh ∙ owed_start in
+    subst P (sym none) record { replays = fresh; legal = tt; covered = omega (arith, devices, room) }

@@ -1,10 +1,9 @@
 -- The machine's laws that the run stands on.
 use Rattle.uv_machine.specs.States.{start}
-use Rattle.uv_machine.specs.Laws.{StateGoesOn, LegalGoesOn, StepsRunOut, CallsStandApart, MakeHasRoom, OwedCovers, SweepBegins, SweepKills, SweepReleases, SweepGoesOn, SweepEnds, SweepShows, OpenIsOpen, PhasesStandApart, FilesStandApart}
+use Rattle.uv_machine.specs.Laws.{StateGoesOn, LegalGoesOn, StepsRunOut, CallsStandApart, IdleIsQuiet, OwedCovers, SweepBegins, SweepKills, SweepReleases, SweepGoesOn, SweepEnds, SweepShows, OpenIsOpen, PhasesStandApart, FilesStandApart}
 use Rattle.uv_machine.proofs.GoingOn.{state_from-snoc, IsLegalFrom-snoc}
 use Rattle.uv_machine.proofs.OwnCall.{steps_ahead-step}
-use Rattle.uv_machine.proofs.Apart.{call_of-after}
-use Rattle.uv_machine.proofs.Numbers.{makes_with_room}
+use Rattle.uv_machine.proofs.Apart.{call_of-after, is_quiet-idle}
 use Rattle.uv_machine.proofs.Owing.{owed_after}
 use Rattle.uv_machine.proofs.Phases.{phase_of-opened, phase_of-after}
 use Rattle.uv_machine.proofs.FilesApart.{phase_of-apart}
@@ -22,8 +21,8 @@ steps_run_out = steps_ahead-step
 pub calls_stand_apart : CallsStandApart
 calls_stand_apart = call_of-after
 
-pub make_has_room : MakeHasRoom
-make_has_room = makes_with_room
+pub idle_is_quiet : IdleIsQuiet
+idle_is_quiet = is_quiet-idle
 
 pub owed_covers : OwedCovers
 owed_covers = owed_after

@@ -3,6 +3,7 @@ use Rattle.std.proofs.Common.{◌≡◌, ◌≢◌, ℕ, zero, suc, ◌<◌, fal
 use Rattle.std.proofs.lemmas.Bool.Decides.{eqb_tells}
 use Rattle.uv_num.specs.declared.request.Request.{Request}
 use Rattle.uv_num.specs.declared.errno.Errno.{Errno}
+use Rattle.uv_num.specs.declared.qp.QpState.{QpState}
 use Rattle.uv_num.specs.declared.limits.TheConstants.{FILES, DEVICES}
 use Rattle.uv_num.proofs.PlaceLaws.{slice_get-at_place_same}
 use Rattle.uv_machine.specs.declared.entry.Entry.{Entry}
@@ -11,7 +12,7 @@ use Rattle.uv_machine.specs.declared.entry.Answer.{Answer}
 use Rattle.uv_machine.specs.declared.entry.Answer.TheVariants as answer
 use Rattle.uv_machine.specs.declared.entry.Done.{Done}
 use Rattle.uv_machine.specs.declared.entry.Word.{Word}
-use Rattle.uv_machine.specs.declared.entry.Word.TheVariants.{Reserve, Make, Commit, Lock, Check, Finish, Abort, Exit}
+use Rattle.uv_machine.specs.declared.entry.Word.TheVariants.{Reserve, Look, Make, Commit, Act, Lock, Check, Finish, Abort, Free, Exit}
 use Rattle.uv_machine.specs.declared.call.InFlight.{InFlight}
 use Rattle.uv_machine.specs.declared.state.State.{State}
 use Rattle.uv_machine.specs.States.{call_of, phase_of, the_call}
@@ -60,10 +61,14 @@ Steps-more s h c d steps e =
 calls_behind : (w : Word) (a : Answer) (slot : Option InFlight) (before now : List Item) → now ≡ before → SlotAfter w slot → CallsWhile slot before (at_exit w a now) a
 calls_behind Reserve a None before now e after = absurd (cc)
 calls_behind Reserve a (Some call) before now e after = e
+calls_behind Look a None before now e after = absurd (cc)
+calls_behind Look a (Some call) before now e after = e
 calls_behind Make a None before now e after = absurd (cc)
 calls_behind Make a (Some call) before now e after = e
 calls_behind Commit a None before now e after = absurd (cc)
 calls_behind Commit a (Some call) before now e after = e
+calls_behind Act a None before now e after = absurd (cc)
+calls_behind Act a (Some call) before now e after = e
 calls_behind Lock a None before now e after = absurd (cc)
 calls_behind Lock a (Some call) before now e after = e
 calls_behind Check a None before now e after = absurd (cc)
@@ -72,6 +77,8 @@ calls_behind Finish a None before now e after = absurd (cc)
 calls_behind Finish a (Some call) before now e after = e
 calls_behind Abort a None before now e after = absurd (cc)
 calls_behind Abort a (Some call) before now e after = e
+calls_behind Free a None before now e after = absurd (cc)
+calls_behind Free a (Some call) before now e after = e
 calls_behind Exit a None before now e after = ap (answered a) e
 calls_behind Exit a (Some call) before now e after = absurd (cc)
 
@@ -142,6 +149,16 @@ not_made None handle index generation (inl e) = cc
 not_made None handle index generation (inr e) = cc
 not_made (Some errno) handle index generation e = cc
 
+not_state : (r : Option Errno) (state : QpState) (index : ℕ) → MayAnswer r (answer.State state index) → ⊥
+not_state None state index (inl e) = cc
+not_state None state index (inr e) = cc
+not_state (Some errno) state index e = cc
+
+not_event : (r : Option Errno) → MayAnswer r answer.Event → ⊥
+not_event None (inl e) = cc
+not_event None (inr e) = cc
+not_event (Some errno) e = cc
+
 not_kept : (r : Option Errno) (kept : ℕ) → MayAnswer r (answer.Kept kept) → ⊥
 not_kept None kept (inl e) = cc
 not_kept None kept (inr e) = cc
@@ -156,6 +173,8 @@ phase_behind_open :
     → IsFreshOrOpen (phase_of (state_of (h ++ open_entry c f d a ∷ [])) f)
 phase_behind_open h c f d answer.Ok legal allowed before = subst IsFreshOrOpen (sym (open_is_open h c f d legal allowed)) tt
 phase_behind_open h c f d (answer.Made handle index generation) legal allowed before = absurd (not_made _ handle index generation allowed.3)
+phase_behind_open h c f d (answer.State state index) legal allowed before = absurd (not_state _ state index allowed.3)
+phase_behind_open h c f d answer.Event legal allowed before = absurd (not_event _ allowed.3)
 phase_behind_open h c f d (answer.Kept kept) legal allowed before = absurd (not_kept _ kept allowed.3)
 phase_behind_open h c f d (answer.Refused e) legal allowed before =
     let P : State → Type 0 = λ v. IsFreshOrOpen (phase_of v f) in
@@ -261,6 +280,8 @@ module _ (h : List Entry) (c f : ℕ) (request : Request) (between : IsBetween h
         others = λ b ne. refl;
       }
   IsOnWay-entered (answer.Made handle index generation) client may fine legal = absurd (not_made _ handle index generation may)
+  IsOnWay-entered (answer.State state index) client may fine legal = absurd (not_state _ state index may)
+  IsOnWay-entered answer.Event client may fine legal = absurd (not_event _ may)
   IsOnWay-entered (answer.Kept kept) client may fine legal = absurd (not_kept _ kept may)
   IsOnWay-entered (answer.Refused e) client may fine legal = absurd (cc)
 
@@ -299,6 +320,8 @@ module _ (h : List Entry) (c f : ℕ) (request : Request) (between : IsBetween h
         };
       }
   IsAnswered-ended (answer.Made handle index generation) h' b may fine way ended = absurd (not_made _ handle index generation may)
+  IsAnswered-ended (answer.State state index) h' b may fine way ended = absurd (not_state _ state index may)
+  IsAnswered-ended answer.Event h' b may fine way ended = absurd (not_event _ may)
   IsAnswered-ended (answer.Kept kept) h' b may fine way ended = absurd (not_kept _ kept may)
   IsAnswered-ended (answer.Refused e) h' b may fine way ended = absurd (cc)
 
@@ -308,6 +331,8 @@ module _ (h : List Entry) (c f : ℕ) (request : Request) (between : IsBetween h
       → IsAnswered h c f request (h ++ enter_entry a ∷ []) a
   IsAnswered-refused answer.Ok errno may refused legal = absurd (cc)
   IsAnswered-refused (answer.Made handle index generation) errno may refused legal = absurd (cc)
+  IsAnswered-refused (answer.State state index) errno may refused legal = absurd (cc)
+  IsAnswered-refused answer.Event errno may refused legal = absurd (cc)
   IsAnswered-refused (answer.Kept kept) errno may refused legal = absurd (cc)
   IsAnswered-refused (answer.Refused e) errno may refused legal =
       let called = calls_of-enter h c f request (answer.Refused e) in

@@ -1,7 +1,6 @@
 -- The ranges of what a client asks of the machine.
-use Rattle.std.specs.Prelude.{ℕ, ◌≤◌, ◌<◌, IsTrue}
+use Rattle.std.specs.Prelude.{ℕ, ◌≤◌, ◌<◌}
 use Rattle.uv_num.specs.declared.limits.TheConstants.{CLIENTS, FILES, DEVICES}
-use Rattle.uv_machine.specs.Outside.{has_plan}
 use Rattle.uv_run.specs.declared.asked.Asked.{Asked}
 use Rattle.uv_run.specs.declared.asked.Asked.TheVariants.{Opens, Calls, Refused}
 
@@ -10,8 +9,8 @@ pub record IsClient (c : ℕ) : Type 0 where
   pub first : 1 ≤ c
   pub last : c ≤ CLIENTS
 
--- the file and the device are some, and the machine has a plan for the request
+-- the file and the device are some
 abbrev pub IsInReach : Asked → Type 0
 IsInReach (Opens file device) = (file < FILES) × (device < DEVICES)
-IsInReach (Calls file request) = (file < FILES) × IsTrue (has_plan request)
+IsInReach (Calls file request) = file < FILES
 IsInReach (Refused errno) = Unit {0}

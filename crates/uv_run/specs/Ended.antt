@@ -3,7 +3,7 @@ use Rattle.std.specs.Prelude.{ℕ, ◌≡◌, ◌≢◌, ◌≤◌, List}
 use Rattle.std.specs.List.{range_with_len}
 use Rattle.uv_num.specs.declared.limits.TheConstants.{ENDER}
 use Rattle.uv_machine.specs.declared.entry.Entry.{Entry}
-use Rattle.uv_machine.specs.States.{phase_of}
+use Rattle.uv_machine.specs.States.{call_of, phase_of}
 use Rattle.uv_machine.specs.Histories.{IsLegal, state_of}
 use Rattle.uv_machine.specs.Calls.{calls_of}
 use Rattle.uv_machine.specs.Laws.{IsIdle, IsSwept}
@@ -15,9 +15,10 @@ pub record HasSwept (torn : List Entry) (f : ℕ) (h : List Entry) : Type 0 wher
   pub count : ℕ
   pub made : h ≡ sweeps_of count torn f
 
--- no phase of another file has changed, and no call was made
+-- no phase of another file has changed, no call in flight has gone on, and none was made
 pub record LeavesOthers (h : List Entry) (f : ℕ) (h' : List Entry) : Type 0 where
   pub phases : (g : ℕ) → g ≢ f → phase_of (state_of h') g ≡ phase_of (state_of h) g
+  pub flights : (c : ℕ) → call_of (state_of h') c ≡ call_of (state_of h) c
   pub calls : (c : ℕ) → calls_of h' c ≡ calls_of h c
 
 -- the end of the script has torn a file and sweeps it

@@ -1,12 +1,12 @@
 -- How a script is played on the machine: line by line, each call to its end, and at last the files are closed.
-use Rattle.std.specs.Prelude.{ℕ, zero, suc, ◌≡◌, ◌≢◌, ◌++◌, Bool, true, false, ◌==◌, List, [], ◌∷◌, Option, None, Some, Result, Ok, Err, length, if◌then◌else◌, find, reverse}
+use Rattle.std.specs.Prelude.{ℕ, zero, suc, ◌≡◌, ◌≢◌, ◌++◌, Bool, true, false, ◌==◌, List, [], ◌∷◌, Option, None, Some, Result, Ok, Err, length, if◌then◌else◌, find, reverse, ◌+◌, nat_lt}
 use Rattle.std.specs.List.{range_with_len}
 use Rattle.uv_num.specs.declared.errno.Errno.{Errno}
 use Rattle.uv_num.specs.declared.errno.Errno.TheVariants.{NoMem}
 use Rattle.std.specs.declared.alloc.AllocError.{AllocError}
 use Rattle.uv_num.specs.declared.request.Request.{Request}
 use Rattle.uv_num.specs.declared.request.Request.TheVariants as request
-use Rattle.uv_num.specs.declared.limits.TheConstants.{ENDER, FILES, NONE}
+use Rattle.uv_num.specs.declared.limits.TheConstants.{ENDER, FILES, CELLS, FIRST_QP_NUMBER, NONE}
 use Rattle.uv_machine.specs.declared.entry.Entry.{Entry}
 use Rattle.uv_machine.specs.declared.entry.Entry.TheVariants as entry
 use Rattle.uv_machine.specs.declared.entry.Done.{Done}
@@ -38,7 +38,8 @@ abbrev pub with_step : List Entry → ℕ → Option Done → List Entry
 with_step h c None = h
 with_step h c (Some d) = h ++ entry.Step c d.word d.object d.found d.answer ∷ []
 
--- the next step of an actor's call, if one is in flight
+-- the next step of an actor's call, if one is in flight. No line moves a queue pair yet, so that an act finds each as it was
+-- made, and nothing is kept of an object
 abbrev pub one_step : List Entry → ℕ → List Entry
 one_step h c = with_step h c (next_of (state_of h) c None 0)
 
@@ -116,10 +117,16 @@ asked_of told (form.Raw client file command) = asked_by file command
 
 -- A line.
 
+-- the number of the queue pair in a cell
+abbrev pub pair_number : ℕ → ℕ
+pair_number index = if nat_lt index CELLS then FIRST_QP_NUMBER + index else NONE
+
 -- what a reply tells of an answer
 abbrev pub saying_of : Answer → Saying
 saying_of answer.Ok = saying.Ok
 saying_of (answer.Made handle index generation) = saying.Handle handle
+saying_of (answer.State state index) = saying.State state (pair_number index)
+saying_of answer.Event = saying.DeviceFatal
 saying_of (answer.Kept kept) = saying.Ok
 saying_of (answer.Refused e) = saying.Refused e
 

@@ -10,7 +10,7 @@ ghost use Rattle.uv_machine.specs.Accounts.{costs};
 use std::alloc::{AllocError, Global};
 use std::marker::Model;
 use uv_machine::{Done, Entry, FilePhase, Object, State};
-use uv_num::{Errno, List, Request, Stock};
+use uv_num::{DEVICES, Errno, List, Request, Stock};
 
 /// The machine's state beside the history that led to it, with room for all that it owes.
 #[derive(Drop)]
@@ -32,14 +32,14 @@ impl Model for Machine {
 }
 
 impl Machine {
-    /// The machine in which nothing has happened.
+    /// The machine in which nothing has happened. It has room for the devices to be pulled.
     pub fn new(alloc: Global) -> Result<Machine, AllocError>
         ensures history { IfOk result (λ m. m.history ≡ []) }
     {
-        Ok(Machine {
-            state: State::new(alloc)?,
-            history: Stock::new(alloc),
-        })
+        let state = State::new(alloc)?;
+        let mut history = Stock::new(alloc);
+        history.widen(DEVICES)?;
+        Ok(Machine { state, history })
     }
 
     /// Takes room for so many more entries. On an error nothing changes.

@@ -1,6 +1,6 @@
 //! How a script is played on the machine: line by line, each call to its end.
 
-ghost use Rattle.std.specs.Prelude.{◌≡◌, ◌≤◌, ◌<◌, ◌+◌, ◌++◌, [], ◌∷◌, IfOk, OnOk, IsSome, IsTrue, None, Some, length};
+ghost use Rattle.std.specs.Prelude.{◌≡◌, ◌≤◌, ◌<◌, ◌+◌, ◌++◌, [], ◌∷◌, IfOk, OnOk, IsSome, None, Some, length};
 ghost use Rattle.uv_num.specs.declared.limits.TheConstants.{FILES, DEVICES};
 ghost use Rattle.uv_script.specs.Ranges.{IsInRange};
 ghost use Rattle.uv_machine.specs.declared.entry.Entry.TheVariants as entry;
@@ -9,10 +9,10 @@ ghost use Rattle.uv_machine.specs.States.{call_of};
 ghost use Rattle.uv_machine.specs.Plans.{entered};
 ghost use Rattle.uv_machine.specs.Effects.{refusal_in};
 ghost use Rattle.uv_machine.specs.Histories.{state_of};
-ghost use Rattle.uv_machine.specs.Outside.{MayAnswer, open_refusal, enter_refusal, has_plan};
+ghost use Rattle.uv_machine.specs.Outside.{MayAnswer, open_refusal, enter_refusal};
 ghost use Rattle.uv_machine.specs.Accounts.{call_owes, unless_refused_costs};
 ghost use Rattle.uv_run.specs.Asking.{IsClient, IsInReach};
-ghost use Rattle.uv_run.specs.Playing.{saying_of, taken_answer, Answers, Plays, PlaysAll};
+ghost use Rattle.uv_run.specs.Playing.{pair_number, saying_of, taken_answer, Answers, Plays, PlaysAll};
 ghost use Rattle.uv_run.specs.Between.{IsBetween, Enters, IsOnWay};
 
 use crate::asked::{Asked, asked_of, client_of};
@@ -20,12 +20,23 @@ use crate::machine::Machine;
 use crate::replies::Replies;
 use std::alloc::{AllocError, Global};
 use uv_machine::{Answer, Done, Entry};
-use uv_num::{Errno, List, Request, Role};
+use uv_num::{CELLS, Errno, FIRST_QP_NUMBER, List, NONE, Request, Role};
 use uv_report::{Said, Saying};
 use uv_script::{Line, Script};
 
-/// The entries that an open file can still cause: its tear and its close.
-const FILE_OWES: usize = 2;
+/// The entries that an open file can still cause: its tear by the driver and the end of that, and its tear and its close.
+const FILE_OWES: usize = 4;
+
+/// The number of the queue pair in a cell.
+fn pair_number(index: u32) -> u32
+    ensures { result ≡ pair_number index }
+{
+    if (index as usize) < CELLS {
+        FIRST_QP_NUMBER + index
+    } else {
+        NONE
+    }
+}
 
 /// What a reply tells of an answer.
 fn saying(answer: Answer) -> Saying
@@ -33,6 +44,11 @@ fn saying(answer: Answer) -> Saying
 {
     match answer {
         Answer::Made { handle, .. } => Saying::Handle(handle),
+        Answer::State { state, index } => Saying::State {
+            state,
+            number: pair_number(index),
+        },
+        Answer::Event => Saying::DeviceFatal,
         Answer::Ok | Answer::Kept(_) => Saying::Ok,
         Answer::Refused(errno) => Saying::Refused(errno),
     }
@@ -42,10 +58,11 @@ fn saying(answer: Answer) -> Saying
 fn owed_by(request: Request) -> usize
     ensures { result ≡ call_owes (Some (entered 0 request)) }
 {
+    let looks = request.looks().len();
     match request.role() {
-        Role::Creates(_) => 6,
+        Role::Creates(_) => 2 * looks + 6,
         Role::Destroys(_) => 4,
-        Role::Acts(_) => 1,
+        Role::Acts(_) => 2 * looks + 2,
     }
 }
 
@@ -63,7 +80,7 @@ fn open_answer(machine: &mut Machine, file: u32, device: u32) -> Answer
     requires { 1 ≤ machine.old.spare }
     ensures history { machine.new.history ≡ machine.old.history }
     ensures may { MayAnswer (open_refusal (state_of machine.old.history) file device) result }
-    ensures room { machine.old.spare + unless_refused_costs (refusal_in result) 2 ≤ machine.new.spare + 1 }
+    ensures room { machine.old.spare + unless_refused_costs (refusal_in result) 4 ≤ machine.new.spare + 1 }
 {
     match machine.open_refusal(file, device) {
         Some(errno) => Answer::Refused(errno),
@@ -109,7 +126,6 @@ fn enter_answer(machine: &mut Machine, file: u32, request: Request) -> Answer
 fn enter(machine: &mut Machine, client: u32, file: u32, request: Request) -> Answer
     requires client { IsClient client }
     requires file { file < FILES }
-    requires plan { IsTrue (has_plan request) }
     requires between { IsBetween machine.old.history }
     requires room { 1 ≤ machine.old.spare }
     ensures enters { Enters machine.old.history client file request machine.new.history result }
@@ -157,7 +173,6 @@ fn run_call(machine: &mut Machine, client: u32) -> Answer
 fn call(machine: &mut Machine, client: u32, file: u32, request: Request) -> Answer
     requires client { IsClient client }
     requires file { file < FILES }
-    requires plan { IsTrue (has_plan request) }
     requires between { IsBetween machine.old.history }
     requires room { 1 ≤ machine.old.spare }
     ensures answers { Answers machine.old.history client (Asked.Calls file request) machine.new.history (saying_of result) }

@@ -1,12 +1,18 @@
 use Rattle.std.proofs.Common.{◌≡◌, ◌<◌, List, [], ◌∷◌, ◌++◌, ap, sym, subst, ◌∙◌, arith}
 use Rattle.uv_machine.specs.declared.entry.Entry.{Entry}
 use Rattle.uv_machine.specs.States.{call_of}
-use Rattle.uv_machine.specs.Histories.{IsLegal, state_of}
+use Rattle.uv_machine.specs.Histories.{Allowed, IsLegal, state_of}
 use Rattle.uv_machine.specs.Accounts.{costs, steps_ahead}
 use Rattle.uv_run.specs.Between.{IsOnWay}
 use Rattle.uv_run.proofs.Snocs.{step_entry}
-use Rattle.uv_run.proofs.Ways.{IsOnWay-step, steps_ahead-next}
+use Rattle.uv_run.proofs.Ways.{Allowed-next, IsOnWay-step, steps_ahead-next}
 use Rattle.uv_run.proofs.playing.run_call.Goals as goal
+
+pub make-requires-clause-allowed : goal.make-requires-clause-allowed
+make-requires-clause-allowed c =
+    let h = c.loop-done.machine.history in
+    let P : Entry → Type 0 = λ v. Allowed (state_of h) v in
+    subst P (sym c.step.ensures) (Allowed-next h c.args.client c.in-Some.done c.requires.client (sym c.in-Some.ensures))
 
 pub loop-done-smaller : goal.loop-done-smaller
 loop-done-smaller c =

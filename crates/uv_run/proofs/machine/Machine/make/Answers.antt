@@ -2,13 +2,8 @@ use Rattle.std.proofs.Common.{◌≤◌, ◌+◌, ◌-◌, subst, sym}
 use Rattle.uv_machine.specs.Histories.{Allowed, state_of}
 use Rattle.uv_machine.specs.Accounts.{owed, costs}
 use Rattle.uv_run.specs.Kept.{Kept}
-use Rattle.uv_run.proofs.KeptLaws.{kept_more, room_kept, room_there, objects_there}
+use Rattle.uv_run.proofs.KeptLaws.{kept_more, room_kept, room_there}
 use Rattle.uv_run.proofs.machine.Machine.make.Goals as goal
-
-pub apply-requires : goal.apply-requires
-apply-requires c =
-    let P : Kept → Type 0 = λ k. Allowed (state_of k.history) c.args.entry in
-    objects_there _ c.self.inside.history.items c.self.inside.history.room c.args.entry c.self.invariant (subst P (sym c.self.view_is) c.requires.allowed)
 
 pub put-requires : goal.put-requires
 put-requires c =
