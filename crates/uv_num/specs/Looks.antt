@@ -1,7 +1,7 @@
 -- What a request looks at: the handles that it names beside the one that it destroys, in the order of its arguments.
 use Rattle.std.specs.Prelude.{ℕ, List, [], ◌∷◌, Option, None, Some}
 use Rattle.uv_num.specs.declared.kind.Kind.{Kind}
-use Rattle.uv_num.specs.declared.kind.Kind.TheVariants.{Pd, Channel, Cq, Qp, Srq, Ah, Mr, Mw}
+use Rattle.uv_num.specs.declared.kind.Kind.TheVariants.{Pd, Channel, Cq, Qp, Srq, Mr, Mw}
 use Rattle.uv_num.specs.declared.asks.Asks.{Asks}
 use Rattle.uv_num.specs.declared.asks.Asks.TheVariants.{Empty, One, Two, Three, Four}
 use Rattle.uv_num.specs.declared.request.Ask.{Ask}

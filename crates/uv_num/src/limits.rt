@@ -48,6 +48,9 @@ pub const WORK_BYTES: usize = 16_384;
 /// The parts of a work request (its scatter and gather list).
 pub const WORK_PARTS: usize = 4;
 
+/// The regions that one packet action works on at once (this project's own).
+pub const LENT_REGIONS: usize = 6;
+
 /// The works of a send, receive or shared receive queue.
 pub const QUEUE_DEPTH: usize = 128;
 
@@ -76,6 +79,17 @@ pub const QP_NUMBERS: u64 = 1 << 24;
 /// `sw/rxe` (`rxe_param.h`): the numbers below are not given out.
 pub const FIRST_QP_NUMBER: u32 = 16;
 
+/// The pool index of the memory region in cell 0; the others follow in the order of their cells. It is
+/// `RXE_MIN_MR_INDEX` of `sw/rxe` (`rxe_param.h`). A region's keys are made of its pool index.
+pub const FIRST_MR_INDEX: u32 = 1;
+
+/// The pool index of the memory window in cell 0, as `RXE_MIN_MW_INDEX` of `sw/rxe` (`rxe_param.h`): behind the pool
+/// indices of regions. The number is this project's own.
+pub const FIRST_MW_INDEX: u32 = 4_097;
+
+/// The variants of a key: its low 8 bits, behind the pool index (`rxe_mr.c`, `rxe_get_next_key`).
+pub const KEY_VARIANTS: u32 = 256;
+
 /// The path MTUs, in bytes: those of `enum ib_mtu` of Linux (`rdma/ib_verbs.h`).
 pub const MTUS: [u64; 5] = [256, 512, 1_024, 2_048, 4_096];
 
@@ -88,6 +102,12 @@ pub const MOST_RETRIES: u64 = 7;
 
 /// The reads that a queue pair may have outstanding, on either side.
 pub const MOST_READS: u64 = 16;
+
+/// The bytes of a packet's payload: the largest path MTU.
+pub const PACKET_PAYLOAD: usize = 4_096;
+
+/// The bytes that are always room enough for a packet: the largest payload, and 64 for its headers and its pad.
+pub const PACKET_BYTES: usize = 4_160;
 
 /// The frames on the link between the devices.
 pub const LINK_FRAMES: usize = 1_024;
@@ -106,6 +126,8 @@ pub const SCRIPT_POSTS: usize = 4_000;
 
 const _: () = prove!(MOST_OBJECTS == FILES * HANDLES);
 
+const _: () = prove!(PACKET_BYTES == PACKET_PAYLOAD + 64);
+
 const _: () = prove!(DRIVER == CLIENTS + 1);
 
 const _: () = prove!(ENDER == CLIENTS + 2);
@@ -115,3 +137,5 @@ const _: () = prove!(ACTORS == ENDER);
 const _: () = prove!(NONE == u32::MAX);
 
 const _: () = prove!(MOST_GENERATION == (1 << 30) - 1);
+
+const _: () = prove!(FIRST_MR_INDEX as usize + CELLS <= FIRST_MW_INDEX as usize);
