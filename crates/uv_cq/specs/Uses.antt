@@ -1,0 +1,81 @@
+-- What a ring tells and keeps over many uses of it.
+use Rattle.std.specs.Prelude.{Bool, true, false, not, ◌||◌, Some, List, [], ◌∷◌, ◌++◌, ◌≡◌, if◌then◌else◌}
+use Rattle.std.specs.Option.{option_to_list}
+use Rattle.uv_queue.specs.Order.{oldest}
+use Rattle.uv_wr.specs.declared.completion.Completion.{Completion}
+use Rattle.uv_cq.specs.declared.ring.Arming.TheVariants.{All}
+use Rattle.uv_cq.specs.Rings.{Ringed, has_room, after_push, after_poll, after_arm, after_disarm}
+
+-- a use of a ring
+pub data Use : Type 0 where
+  Pushes : Completion → Bool → Use
+  Polls : Use
+  Arms : Bool → Use
+  Disarms : Use
+
+-- the ring after one use
+abbrev pub after_use : Ringed → Use → Ringed
+after_use r (Pushes completion solicited) = after_push r completion
+after_use r Polls = after_poll r
+after_use r (Arms solicited) = after_arm r solicited
+after_use r Disarms = after_disarm r
+
+-- and after many
+abbrev pub after_uses : Ringed → List Use → Ringed
+after_uses r [] = r
+after_uses r (u ∷ uses) = after_uses (after_use r u) uses
+
+-- the completion of a use that is kept
+abbrev pub kept_by : Ringed → Use → List Completion
+kept_by r (Pushes completion solicited) = if has_room r then completion ∷ [] else []
+kept_by r Polls = []
+kept_by r (Arms solicited) = []
+kept_by r Disarms = []
+
+-- those that are kept, in order
+abbrev pub kept_in : Ringed → List Use → List Completion
+kept_in r [] = []
+kept_in r (u ∷ uses) = kept_by r u ++ kept_in (after_use r u) uses
+
+-- the completion that a use takes out
+abbrev pub told_by : Ringed → Use → List Completion
+told_by r (Pushes completion solicited) = []
+told_by r Polls = option_to_list (oldest r.completions)
+told_by r (Arms solicited) = []
+told_by r Disarms = []
+
+-- those that are taken out, in order
+abbrev pub told_in : Ringed → List Use → List Completion
+told_in r [] = []
+told_in r (u ∷ uses) = told_by r u ++ told_in (after_use r u) uses
+
+-- whether a use loses a completion
+abbrev pub loses : Ringed → Use → Bool
+loses r (Pushes completion solicited) = not (has_room r)
+loses r Polls = false
+loses r (Arms solicited) = false
+loses r Disarms = false
+
+-- whether any does
+abbrev pub loses_in : Ringed → List Use → Bool
+loses_in r [] = false
+loses_in r (u ∷ uses) = loses r u || loses_in (after_use r u) uses
+
+-- whether a use disarms
+abbrev pub is_disarming : Use → Bool
+is_disarming (Pushes completion solicited) = false
+is_disarming Polls = false
+is_disarming (Arms solicited) = false
+is_disarming Disarms = true
+
+-- what was taken out and then what stands is what stood and then what was kept
+abbrev pub IsInOrder : Ringed → List Use → Type 0
+IsInOrder r uses = told_in r uses ++ (after_uses r uses).completions ≡ r.completions ++ kept_in r uses
+
+-- the mark is set where it was, or where a completion was lost since
+abbrev pub IsMarked : Ringed → List Use → Type 0
+IsMarked r uses = (after_uses r uses).overrun ≡ (r.overrun || loses_in r uses)
+
+-- the ring is still armed for all
+abbrev pub StaysArmed : Ringed → List Use → Type 0
+StaysArmed r uses = (after_uses r uses).armed ≡ Some All
