@@ -1,0 +1,5 @@
+pub mod Replaying
+pub mod Keeping
+pub mod Lending
+pub mod Journaling
+pub mod Maps

@@ -1,0 +1,9 @@
+pub mod Actions
+pub mod Refusals
+pub mod Replay
+pub mod Registered
+pub mod Journals
+pub mod Acting
+pub mod Codes
+pub mod Lent
+pub mod Laws

@@ -1,0 +1,44 @@
+//! Laws of regions and journals.
+
+ghost use Rattle.uv_region.specs.Laws.{AllowedPassesAll, OutsideStays, WrittenStands, ActedIsKept, ReplayKeepsLength, GoesOnFromItself, GoesOnInTurn, ActedGoesOn};
+
+/// An action is allowed exactly where it lies inside the region, has its right and the region's domain, and passes its
+/// window.
+pub fn allowed_passes_all()
+    ensures { AllowedPassesAll }
+{}
+
+/// An action touches no byte outside its place.
+pub fn outside_stays()
+    ensures { OutsideStays }
+{}
+
+/// What was written stands there.
+pub fn written_stands()
+    ensures { WrittenStands }
+{}
+
+/// A region to which an allowed action is done has the journal of all that was done to it.
+pub fn acted_is_kept()
+    ensures { ActedIsKept }
+{}
+
+/// The bytes that a journal leaves are as many as the region has.
+pub fn replay_keeps_length()
+    ensures { ReplayKeepsLength }
+{}
+
+/// A journal goes on from itself.
+pub fn goes_on_from_itself()
+    ensures { GoesOnFromItself }
+{}
+
+/// A journal goes on from each that those go on from which it goes on from.
+pub fn goes_on_in_turn()
+    ensures { GoesOnInTurn }
+{}
+
+/// The journal of a region that acted goes on from what it was.
+pub fn acted_goes_on()
+    ensures { ActedGoesOn }
+{}
