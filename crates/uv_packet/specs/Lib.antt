@@ -1,0 +1,7 @@
+pub mod Opcodes
+pub mod Places
+pub mod Fields
+pub mod Packets
+pub mod Reading
+pub mod Refusal
+pub mod Room
