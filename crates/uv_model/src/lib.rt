@@ -1,7 +1,8 @@
 //! The object-graph machine under the name that the layers above know, and what its histories tell.
 //!
-//! `judge` says whether a history is legal, and else where it is bad first. `standing` tells what stands at a place of a history, `gone_after` what one teardown released, and `gone_at_end` what
-//! went when the end of a script closed the files. The words and definitions of `uv_machine` are passed on.
+//! `judge` says whether a history is legal, and else where it is bad first. `standing` tells what stands at a place of a
+//! history, `gone_after` what one teardown released, and `gone_at_end` what went when the end of a script closed the files.
+//! The words and definitions of `uv_machine` are passed on.
 #![tactic(auto)]
 
 mod gone;
