@@ -1,0 +1,64 @@
+use Rattle.std.proofs.Common.{◌≡◌, ◌∙◌, true, None, ap, subst, sym, refl, Some, arith}
+use Rattle.uv_num.specs.Place.{at_place}
+use Rattle.uv_machine.specs.declared.entry.Entry.TheVariants as entry
+use Rattle.uv_machine.specs.States.{object_with}
+use Rattle.uv_machine.specs.Histories.{Allowed, state_of}
+use Rattle.uv_machine.proofs.Reaching.{Reached-state_of}
+use Rattle.uv_graph.specs.Deeds.{told}
+use Rattle.uv_graph.specs.Hands.{HandsKilled}
+use Rattle.uv_graph.specs.Kept.{Kept, kill_of, put_out}
+use Rattle.uv_graph.specs.Owns.{torn_by_object}
+use Rattle.uv_graph.specs.Slots.{put_slot}
+use Rattle.uv_graph.proofs.Taking.{held_slot, deed_for, kill_tied, killed_live, torn_actor}
+use Rattle.uv_graph.specs.Seats.{slot_of}
+use Rattle.std.specs.Prelude.{slice_get}
+use Rattle.uv_graph.proofs.graph.Graph.kill.Goals as goal
+
+pub unreachable-requires-in-None-take : goal.unreachable-requires-in-None-take
+unreachable-requires-in-None-take g c =
+    let tell = told g.D.Deed.kind_of g.D.Deed.index_of g.D.Deed.generation_of g.D.Deed.is_spent g.D.Deed.is_planted g.D.Deed.identity_of g.D.Deed.lives_of in
+    let there : object_with (state_of c.self.inside.log.history) c.args.object ≡ Some c.in-Some.x = sym (c.object_with-found.ensures ∙ ap (λ s. object_with s c.args.object) c.state.ensures) ∙ c.in-Some.is in
+    let A : Kept → Type 0 = λ k. Allowed (state_of k.history) (entry.Kill c.args.object) in
+    let allowed = subst A (sym c.self.view_is) c.requires.allowed in
+    let live = killed_live (state_of c.self.inside.log.history) c.args.object c.in-Some.x (Reached-state_of c.self.inside.log.history c.self.invariant.legal) there allowed in
+    let T : Kept → Type 0 = λ k. torn_by_object (state_of k.history) c.args.by (object_with (state_of k.history) c.args.object) ≡ true in
+    let torn = subst T (sym c.self.view_is) c.requires.torn in
+    let N : Kept → Type 0 = λ k. kill_of k c.args.by ≡ None in
+    let none = subst N (sym c.self.view_is) c.requires.none in
+    held_slot tell c.self.inside.log _ c.self.inside.pools c.self.inside.held c.self.invariant c.in-Some.x c.args.object there live None (sym c.in-None-take.is ∙ c.take.ensures.deed ∙ ap (λ v. slot_of (slice_get c.self.inside.held v)) c.seat_place.ensures)
+
+pub invariant_of-self : goal.invariant_of-self
+invariant_of-self g c =
+    let tell = told g.D.Deed.kind_of g.D.Deed.index_of g.D.Deed.generation_of g.D.Deed.is_spent g.D.Deed.is_planted g.D.Deed.identity_of g.D.Deed.lives_of in
+    let there : object_with (state_of c.self.inside.log.history) c.args.object ≡ Some c.in-Some.x = sym (c.object_with-found.ensures ∙ ap (λ s. object_with s c.args.object) c.state.ensures) ∙ c.in-Some.is in
+    let A : Kept → Type 0 = λ k. Allowed (state_of k.history) (entry.Kill c.args.object) in
+    let allowed = subst A (sym c.self.view_is) c.requires.allowed in
+    let live = killed_live (state_of c.self.inside.log.history) c.args.object c.in-Some.x (Reached-state_of c.self.inside.log.history c.self.invariant.legal) there allowed in
+    let T : Kept → Type 0 = λ k. torn_by_object (state_of k.history) c.args.by (object_with (state_of k.history) c.args.object) ≡ true in
+    let torn = subst T (sym c.self.view_is) c.requires.torn in
+    let N : Kept → Type 0 = λ k. kill_of k c.args.by ≡ None in
+    let none = subst N (sym c.self.view_is) c.requires.none in
+    kill_tied tell c.self.inside.log c.note.new.self _ _ c.self.inside.pools c.self.inside.held c.take.new.held c.self.invariant c.in-Some.x c.args.object there live (c.take.ensures.held ∙ ap (λ v. at_place c.self.inside.held v (put_slot None)) c.seat_place.ensures) c.note.ensures.legal refl (omega (arith, c.self.invariant.covered, c.note.ensures.spare)) c.args.by (torn_actor c.self.inside.log.history c.args.by c.args.object c.self.invariant.legal torn) allowed torn none c.note.ensures.history (c.set_out.ensures ∙ ap (λ v. at_place c.self.inside.kills c.args.by (put_out (Some v))) c.out_for.ensures) refl
+
+pub returns-clause-hands : goal.returns-clause-hands
+returns-clause-hands g c =
+    let tell = told g.D.Deed.kind_of g.D.Deed.index_of g.D.Deed.generation_of g.D.Deed.is_spent g.D.Deed.is_planted g.D.Deed.identity_of g.D.Deed.lives_of in
+    let there : object_with (state_of c.self.inside.log.history) c.args.object ≡ Some c.in-Some.x = sym (c.object_with-found.ensures ∙ ap (λ s. object_with s c.args.object) c.state.ensures) ∙ c.in-Some.is in
+    let A : Kept → Type 0 = λ k. Allowed (state_of k.history) (entry.Kill c.args.object) in
+    let allowed = subst A (sym c.self.view_is) c.requires.allowed in
+    let live = killed_live (state_of c.self.inside.log.history) c.args.object c.in-Some.x (Reached-state_of c.self.inside.log.history c.self.invariant.legal) there allowed in
+    let T : Kept → Type 0 = λ k. torn_by_object (state_of k.history) c.args.by (object_with (state_of k.history) c.args.object) ≡ true in
+    let torn = subst T (sym c.self.view_is) c.requires.torn in
+    let N : Kept → Type 0 = λ k. kill_of k c.args.by ≡ None in
+    let none = subst N (sym c.self.view_is) c.requires.none in
+    let k' : Kept = record { history = c.note.new.self.history; spares = c.self.inside.spares; outs = c.self.inside.outs; kills = c.set_out.new.outs } in
+    let held = held_slot tell c.self.inside.log _ c.self.inside.pools c.self.inside.held c.self.invariant c.in-Some.x c.args.object there live (Some c.in-Some-take.deed) (sym c.in-Some-take.is ∙ c.take.ensures.deed ∙ ap (λ v. slot_of (slice_get c.self.inside.held v)) c.seat_place.ensures) in
+    let R : Kept → Type 0 = λ k. HandsKilled k k' (entry.Kill c.args.object) c.args.by c.args.object (tell c.in-Some-take.deed) in
+    subst R c.self.view_is
+    (record {
+      item = c.in-Some.x;
+      there = there;
+      live = live;
+      notes = record { history = c.note.ensures.history; spares = refl; outs = refl; kills = (c.set_out.ensures ∙ ap (λ v. at_place c.self.inside.kills c.args.by (put_out (Some v))) c.out_for.ensures) };
+      deed = deed_for tell c.self.inside.log _ c.self.inside.pools c.self.inside.held c.self.invariant c.in-Some.x c.args.object there live (entry.Kill c.args.object) allowed tt c.note.new.self c.note.ensures.history c.in-Some-take.deed held;
+    })

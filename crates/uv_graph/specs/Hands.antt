@@ -1,0 +1,128 @@
+-- Deeds that go out to an actor and come back.
+use Rattle.std.specs.Prelude.{ℕ, Bool, true, false, ◌≡◌, ◌<◌, List, [], Option, None, Some, length, slice_get}
+use Rattle.uv_num.specs.declared.limits.TheConstants.{CELLS, KINDS}
+use Rattle.uv_num.specs.Kind.{kind_place}
+use Rattle.uv_pool.specs.Homes.{Homes, deed_at}
+use Rattle.uv_machine.specs.declared.entry.Entry.{Entry}
+use Rattle.uv_machine.specs.declared.file.FilePhase.{FilePhase}
+use Rattle.uv_machine.specs.declared.file.FilePhase.TheVariants as file
+use Rattle.uv_machine.specs.declared.object.Object.{Object}
+use Rattle.uv_machine.specs.declared.pool.Cell.{Cell}
+use Rattle.uv_machine.specs.declared.state.State.{State}
+use Rattle.uv_machine.specs.Objects.{is_made, is_live}
+use Rattle.uv_machine.specs.States.{object_with, phase_of}
+use Rattle.uv_machine.specs.Histories.{state_of}
+use Rattle.uv_machine.specs.Reached.{cell_in}
+use Rattle.uv_graph.specs.declared.out.Out.{Out}
+use Rattle.uv_graph.specs.Kept.{Kept, out_of}
+use Rattle.uv_graph.specs.Deeds.{Told, TellsLives, out_for, IsForNew, IsPlantedFor, IsBuried}
+use Rattle.uv_graph.specs.Lives.{lives_in}
+use Rattle.uv_graph.specs.Notes.{NotesOut, NotesKill}
+
+-- a make: the deed of the new object's cell went out to the client
+pub record HandsNew (old new : Kept) (e : Entry) (client o : ℕ) (t : Told) : Type 0 where
+  pub item : Object
+  pub there : object_with (state_of new.history) o ≡ Some item
+  pub made : is_made item.phase ≡ true
+  pub notes : NotesOut old new e client (Some (out_for item))
+  pub deed : IsForNew t item new.history
+
+-- a check of a live object: its deed went out to the client
+pub record HandsPlanted (old new : Kept) (e : Entry) (client o : ℕ) (t : Told) : Type 0 where
+  pub item : Object
+  pub there : object_with (state_of old.history) o ≡ Some item
+  pub live : is_live item.phase ≡ true
+  pub notes : NotesOut old new e client (Some (out_for item))
+  pub deed : IsPlantedFor t item new.history
+
+-- a kill: the object's deed went out to who tears its file down
+pub record HandsKilled (old new : Kept) (e : Entry) (actor o : ℕ) (t : Told) : Type 0 where
+  pub item : Object
+  pub there : object_with (state_of old.history) o ≡ Some item
+  pub live : is_live item.phase ≡ true
+  pub notes : NotesKill old new e actor (Some (out_for item))
+  pub deed : IsPlantedFor t item new.history
+
+-- the deed that the client's call has out comes back, planted for the call's new object
+pub record ComesPlanted (k : Kept) (client : ℕ) (t : Told) : Type 0 where
+  pub out : Out
+  pub is : out_of k client ≡ Some out
+  pub item : Object
+  pub there : object_with (state_of k.history) out.object ≡ Some item
+  pub made : is_made item.phase ≡ true
+  pub deed : IsPlantedFor t item k.history
+
+-- the deed that this hand has out for the object comes back buried
+pub record ComesBuried (hand : Option Out) (o : ℕ) (t : Told) (h : List Entry) : Type 0 where
+  pub out : Out
+  pub is : hand ≡ Some out
+  pub object : out.object ≡ o
+  pub deed : IsBuried t out h
+
+-- the object is live
+abbrev pub is_live_object : Option Object → Bool
+is_live_object None = false
+is_live_object (Some x) = is_live x.phase
+
+-- Pools at the beginning and at the end.
+
+-- a deed that was never planted
+pub record IsNewDeed (t : Told) (k i : ℕ) : Type 0 where
+  pub kind : kind_place t.kind ≡ k
+  pub index : t.index ≡ i
+  pub generation : t.generation ≡ 0
+  pub planted : t.planted ≡ false
+  pub spent : t.spent ≡ false
+  pub lives : TellsLives t.lives []
+
+pub record HasNewDeed {D : Type 0} (tell : D → Told) (pool : Homes D) (k i : ℕ) : Type 0 where
+  pub deed : D
+  pub there : deed_at pool i ≡ Some deed
+  pub new : IsNewDeed (tell deed) k i
+
+-- a full pool of the kind in this place, drawn from by none
+pub record IsNewPool {D : Type 0} (tell : D → Told) (k : ℕ) (pool : Homes D) : Type 0 where
+  pub kind : kind_place pool.kind ≡ k
+  pub size : length pool.deeds ≡ CELLS
+  pub next : pool.next ≡ 0
+  pub deeds : (i : ℕ) → i < CELLS → HasNewDeed tell pool k i
+
+-- full pools of all kinds, in the order of the kinds
+pub record AreNewPools {D : Type 0} (tell : D → Told) (pools : List (Homes D)) : Type 0 where
+  pub count : length pools ≡ KINDS
+  pub each : (k : ℕ) (pool : Homes D) → slice_get pools k ≡ Some pool → IsNewPool tell k pool
+
+-- a deed that came home, with the generation and the lives that the history says
+pub record IsHomeDeed (t : Told) (k i : ℕ) (h : List Entry) : Type 0 where
+  pub cell : Cell
+  pub is : cell_in (slice_get (state_of h).pools k) i ≡ Some cell
+  pub kind : kind_place t.kind ≡ k
+  pub index : t.index ≡ i
+  pub generation : t.generation ≡ cell.generation
+  pub planted : t.planted ≡ false
+  pub lives : TellsLives t.lives (lives_in h k i)
+
+pub record HasHomeDeed {D : Type 0} (tell : D → Told) (pool : Homes D) (k i : ℕ) (h : List Entry) : Type 0 where
+  pub deed : D
+  pub there : deed_at pool i ≡ Some deed
+  pub home : IsHomeDeed (tell deed) k i h
+
+pub record IsHomePool {D : Type 0} (tell : D → Told) (k : ℕ) (pool : Homes D) (h : List Entry) : Type 0 where
+  pub kind : kind_place pool.kind ≡ k
+  pub deeds : (i : ℕ) → i < CELLS → HasHomeDeed tell pool k i h
+
+-- the pools of all kinds, in the order of the kinds, with all their deeds
+pub record AreHomePools {D : Type 0} (tell : D → Told) (pools : List (Homes D)) (h : List Entry) : Type 0 where
+  pub count : length pools ≡ KINDS
+  pub each : (k : ℕ) (pool : Homes D) → slice_get pools k ≡ Some pool → IsHomePool tell k pool h
+
+abbrev pub is_over : FilePhase → Bool
+is_over file.Fresh = true
+is_over file.Open = false
+is_over (file.Tearing by) = false
+is_over file.Dissociated = false
+is_over file.Closed = true
+
+-- each file was never opened, or is closed
+abbrev pub AreOver : State → Type 0
+AreOver m = (f : ℕ) → is_over (phase_of m f) ≡ true

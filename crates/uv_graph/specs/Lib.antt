@@ -1,0 +1,14 @@
+pub mod Begins
+pub mod Calls
+pub mod Deeds
+pub mod Dooms
+pub mod Hands
+pub mod Kept
+pub mod Lives
+pub mod Logged
+pub mod Notes
+pub mod Owns
+pub mod Seats
+pub mod Slots
+pub mod Stepping
+pub mod Turns

@@ -1,0 +1,72 @@
+//! The beginning and the end of a graph.
+
+ghost use Rattle.std.specs.Prelude.{◌≡◌, ◌*◌, IfOk, length};
+ghost use Rattle.uv_num.specs.declared.limits.TheConstants.{CELLS, KINDS};
+ghost use Rattle.uv_machine.specs.Laws.{IsIdle};
+ghost use Rattle.uv_machine.specs.Histories.{IsLegal, state_of};
+ghost use Rattle.uv_graph.specs.Deeds.{told};
+ghost use Rattle.uv_graph.specs.Hands.{AreNewPools, AreHomePools, AreOver};
+ghost use Rattle.uv_graph.specs.Begins.{IsFresh, HoldsNone};
+
+use crate::graph::Graph;
+use crate::log::Log;
+use std::alloc::{AllocError, Global};
+use uv_machine::{ACTOR_PLACES, Entry};
+use uv_num::{CELLS, CLIENTS, KINDS, List, SCRIPT_LINES};
+use uv_pool::{Deed, Pool};
+
+/// The refused entries of a client that a new graph has room for: as many as a script has lines.
+pub const SPARES: u32 = SCRIPT_LINES as u32;
+
+/// The refused entries of all clients.
+const ALL_SPARES: usize = CLIENTS as usize * SCRIPT_LINES;
+
+/// By actor: the clients have theirs, and place 0, the driver and the end of the script have none.
+const FIRST_SPARES: [u32; ACTOR_PLACES] = [
+    0, SPARES, SPARES, SPARES, SPARES, SPARES, SPARES, SPARES, SPARES, 0, 0,
+];
+
+/// No planted deeds.
+fn none_held<D: Deed>(alloc: Global) -> Result<List<Option<D>>, AllocError>
+    ensures size { IfOk result (λ h. length h ≡ KINDS * CELLS) }
+    ensures none { IfOk result (λ h. HoldsNone h) }
+{
+    let mut held = List::new(alloc);
+    for _turn in 0..KINDS * CELLS {
+        held.push(None)?;
+    }
+    Ok(held)
+}
+
+impl<D: Deed> Graph<D> {
+    /// The graph in which nothing has happened, with room for both devices to be pulled and for `SPARES` refused entries
+    /// of each client.
+    pub fn new(alloc: Global, pools: List<Pool<D>>) -> Result<Graph<D>, AllocError>
+        requires { AreNewPools (told D.kind_of D.index_of D.generation_of D.is_spent D.is_planted D.identity_of D.lives_of) pools }
+        ensures { IfOk result (λ g. IsFresh g) }
+    {
+        let mut log = Log::new(alloc)?;
+        log.widen(ALL_SPARES)?;
+        let held = none_held(alloc)?;
+        Ok(Graph {
+            log,
+            spares: FIRST_SPARES,
+            outs: [None; ACTOR_PLACES],
+            kills: [None; ACTOR_PLACES],
+            pools,
+            held,
+        })
+    }
+
+    /// The stored history, and the pools with all their deeds. It takes no memory.
+    pub fn into_parts(self) -> (List<Entry>, List<Pool<D>>)
+        requires idle { IsIdle (state_of self.history) }
+        requires over { AreOver (state_of self.history) }
+        ensures history { result.0 ≡ self.history }
+        ensures legal { IsLegal self.history }
+        ensures pools { AreHomePools (told D.kind_of D.index_of D.generation_of D.is_spent D.is_planted D.identity_of D.lives_of) result.1 self.history }
+    {
+        let Graph { log, pools, .. } = self;
+        (log.into_history(), pools)
+    }
+}
