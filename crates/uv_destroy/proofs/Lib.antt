@@ -1,0 +1,2 @@
+pub mod Burials
+pub mod Planning
