@@ -1,0 +1,2 @@
+mod NewPools
+mod Touched

@@ -1,0 +1,144 @@
+//! The steps of the calls that act on objects that stay: they look at what they name, act, and let it go again.
+
+ghost use Rattle.std.specs.Prelude.{◌≡◌, true, None, Some};
+ghost use Rattle.uv_machine.specs.declared.entry.Word.TheVariants as word;
+ghost use Rattle.uv_machine.specs.Steps.{next_of};
+ghost use Rattle.uv_machine.specs.Histories.{Allowed, IsLegal, state_of};
+ghost use Rattle.uv_graph.specs.Deeds.{told};
+ghost use Rattle.uv_graph.specs.Kept.{out_of};
+ghost use Rattle.uv_graph.specs.Notes.{Notes};
+ghost use Rattle.uv_graph.specs.Stepping.{IsAt};
+ghost use Rattle.uv_graph.specs.Turns.{is_act, touches, role_touches, awaits, step_entry, IsReady, StepGives, IsTouching, ActsBy};
+ghost use Rattle.uv_fileops.specs.Acting.{IsAtAct, IsAtEvent};
+
+use uv_graph::{Graph, Progress};
+use uv_machine::{Answer, Done, InFlight, Word};
+use uv_num::{Act, QpState, Role};
+use uv_pool::Deed;
+
+/// Whether an act is about what a cell holds, so that its state is told from outside.
+fn touches(act: Act) -> bool
+    ensures { result ≡ touches act }
+{
+    match act {
+        Act::Modify { .. } | Act::Query | Act::Bind { .. } | Act::Unbind { .. } => true,
+        Act::Async => false,
+    }
+}
+
+fn role_touches(role: Role) -> bool
+    ensures { result ≡ role_touches role }
+{
+    match role {
+        Role::Creates(_) | Role::Destroys(_) => false,
+        Role::Acts(act) => touches(act),
+    }
+}
+
+/// Makes an act, or its refusal.
+fn note_act<D: Deed>(graph: &mut Graph<D>, client: u32, done: Done)
+    requires allowed { Allowed (state_of graph.old.history) (step_entry client done) }
+    requires word { done.word ≡ word.Act }
+    requires none { out_of graph.old client ≡ None }
+    ensures notes { Notes graph.old graph.new (step_entry client done) }
+    ensures legal { IsLegal graph.new.history }
+{
+    match done.answer {
+        Answer::Refused(errno) => graph.refuse(client, Word::Act, done.object, done.found, errno),
+        Answer::Ok | Answer::Made { .. } | Answer::State { .. } | Answer::Event | Answer::Kept(_) =>
+            graph.act(client, done.object, done.found, done.answer),
+    }
+}
+
+/// Makes the act that a client's call makes next, with the state that it finds.
+fn make_act<D: Deed>(graph: &mut Graph<D>, client: u32, found: Option<QpState>) -> Done
+    requires { IsAtAct graph.old client }
+    ensures next { next_of (state_of graph.old.history) client found 0 ≡ Some result }
+    ensures word { result.word ≡ word.Act }
+    ensures notes { Notes graph.old graph.new (step_entry client result) }
+    ensures legal { IsLegal graph.new.history }
+{
+    match graph.next_step(client, found) {
+        None => unreachable!(),
+        Some(done) => {
+            note_act(graph, client, done);
+            done
+        }
+    }
+}
+
+/// Takes the oldest event of the call's file, or tells why there is none.
+fn take_event<D: Deed>(graph: &mut Graph<D>, client: u32) -> Progress<D>
+    requires { IsAtEvent graph.old client }
+    ensures gives { StepGives (told D.kind_of D.index_of D.generation_of D.is_spent D.is_planted D.identity_of D.lives_of) graph.old graph.new client result }
+    ensures legal { IsLegal graph.new.history }
+{
+    let done = make_act(graph, client, None);
+    match done.answer.refusal() {
+        None => Progress::Went(Word::Act),
+        Some(errno) => Progress::Refused(Word::Act, errno),
+    }
+}
+
+/// Tells the cell that a call's act is about.
+fn touch<D: Deed>(graph: &Graph<D>, client: u32, call: InFlight) -> Progress<D>
+    requires at { IsAt graph.now client call word.Act }
+    requires awaits { awaits call ≡ true }
+    ensures gives { StepGives (told D.kind_of D.index_of D.generation_of D.is_spent D.is_planted D.identity_of D.lives_of) graph.now graph.now client result }
+    ensures legal { IsLegal graph.now.history }
+{
+    graph.is_legal();
+    match graph.object_with(call.acted_on()) {
+        None => unreachable!(),
+        Some(x) => Progress::Touch {
+            kind: x.kind,
+            index: x.index,
+            generation: x.generation,
+        },
+    }
+}
+
+/// Makes an act that is about no cell, or tells the cell that it is about.
+fn turn<D: Deed>(graph: &mut Graph<D>, client: u32, call: InFlight) -> Progress<D>
+    requires { IsAt graph.old client call word.Act }
+    ensures gives { StepGives (told D.kind_of D.index_of D.generation_of D.is_spent D.is_planted D.identity_of D.lives_of) graph.old graph.new client result }
+    ensures legal { IsLegal graph.new.history }
+{
+    if role_touches(call.request.role()) {
+        touch(graph, client, call)
+    } else {
+        take_event(graph, client)
+    }
+}
+
+/// Makes the step that a client's call to modify, query, bind or take an event makes next. Before an act that is about a
+/// cell it makes none, and answers `Touch`: the act is then made by `act`. A look is refused with ENOENT where no object is
+/// published under the number, EINVAL where it is of another kind, EIO where the file's device is gone, and EBUSY where a
+/// call holds it exclusively; the taking of an event with EAGAIN where there is none, or EIO where the device is gone.
+pub fn step<D: Deed>(graph: &mut Graph<D>, client: u32) -> Progress<D>
+    requires { IsReady is_act graph.old client }
+    ensures gives { StepGives (told D.kind_of D.index_of D.generation_of D.is_spent D.is_planted D.identity_of D.lives_of) graph.old graph.new client result }
+    ensures legal { IsLegal graph.new.history }
+{
+    match graph.call_of(client) {
+        None => unreachable!(),
+        Some(call) => match call.next_word() {
+            Word::Look => graph.look_step(client, call),
+            Word::Act => turn(graph, client, call),
+            Word::Abort | Word::Free | Word::Exit => graph.close_step(client, call),
+            Word::Reserve | Word::Make | Word::Commit | Word::Lock | Word::Check | Word::Finish =>
+                unreachable!(),
+        },
+    }
+}
+
+/// Makes the act behind `Touch` (`uverbs_cmd.c`, ib_uverbs_modify_qp and ib_uverbs_query_qp; binding a window by a call is
+/// this project's own), and answers what it tells. `found` is the state of the queue pair, for the acts that look at one.
+/// EINVAL: the table of moves doesn't have the move, or the window can't be bound so.
+pub fn act<D: Deed>(graph: &mut Graph<D>, client: u32, found: Option<QpState>) -> Answer
+    requires { IsTouching graph.old client found }
+    ensures acts { ActsBy graph.old graph.new client found result }
+    ensures legal { IsLegal graph.new.history }
+{
+    make_act(graph, client, found).answer
+}

@@ -1,0 +1,132 @@
+//! Enters: a call enters on a file that takes calls, and finds the memory that all its steps need.
+
+ghost use Rattle.std.specs.Prelude.{◌≡◌, ◌<◌, None, Err};
+ghost use Rattle.uv_num.specs.declared.limits.TheConstants.{FILES};
+ghost use Rattle.uv_machine.specs.declared.entry.Entry.TheVariants as entry;
+ghost use Rattle.uv_machine.specs.declared.entry.Answer.TheVariants as answer;
+ghost use Rattle.uv_machine.specs.States.{call_of};
+ghost use Rattle.uv_machine.specs.Histories.{IsLegal, state_of};
+ghost use Rattle.uv_machine.specs.Outside.{MayAnswer, act_needs_device, needs_device, enter_refusal};
+ghost use Rattle.uv_graph.specs.Kept.{spare_of};
+ghost use Rattle.uv_graph.specs.Notes.{NotesSpared};
+ghost use Rattle.uv_graph.specs.Turns.{IsClient, EnterGives, refusal_without};
+
+use std::alloc::AllocError;
+use uv_graph::Graph;
+use uv_num::{Act, Errno, FILES, Request, Role};
+use uv_pool::Deed;
+
+/// Whether an act serves on a device that is plugged in alone. Events tell that a device went.
+fn act_needs_device(act: Act) -> bool
+    ensures { result ≡ act_needs_device act }
+{
+    match act {
+        Act::Modify { .. } | Act::Query | Act::Bind { .. } | Act::Unbind { .. } => true,
+        Act::Async => false,
+    }
+}
+
+/// Whether a request serves on a device that is plugged in alone. What the removal of a device left may be destroyed.
+fn needs_device(role: Role) -> bool
+    ensures { result ≡ needs_device role }
+{
+    match role {
+        Role::Creates(_) => true,
+        Role::Destroys(_) => false,
+        Role::Acts(act) => act_needs_device(act),
+    }
+}
+
+/// The errno with which a request on a file is refused at its enter, if it is; want of memory aside.
+fn enter_refusal<D: Deed>(graph: &Graph<D>, file: u32, request: Request) -> Option<Errno>
+    ensures { result ≡ enter_refusal (state_of graph.now.history) file request }
+{
+    if !graph.phase_of(file).is_callable() {
+        return Some(Errno::BadF);
+    }
+    if graph.is_unplugged(graph.device_of(file)) && needs_device(request.role()) {
+        Some(Errno::Io)
+    } else {
+        None
+    }
+}
+
+/// Notes that a call is refused at its enter with this errno. Where there is no room for that, it is want of memory.
+fn note_refusal<D: Deed>(
+    graph: &mut Graph<D>,
+    client: u32,
+    file: u32,
+    request: Request,
+    errno: Errno,
+) -> Errno
+    requires client { IsClient client }
+    requires file { file < FILES }
+    requires free { call_of (state_of graph.old.history) client ≡ None }
+    requires may { MayAnswer (enter_refusal (state_of graph.old.history) file request) (answer.Refused errno) }
+    ensures gives { EnterGives graph.old graph.new client file request (Err result) }
+    ensures legal { IsLegal graph.new.history }
+{
+    if graph.refuse_enter(client, file, request, errno) {
+        errno
+    } else {
+        Errno::NoMem
+    }
+}
+
+/// Lets a call enter that nothing refuses, if there is memory.
+fn take<D: Deed>(
+    graph: &mut Graph<D>,
+    client: u32,
+    file: u32,
+    request: Request,
+) -> Result<(), Errno>
+    requires client { IsClient client }
+    requires file { file < FILES }
+    requires free { call_of (state_of graph.old.history) client ≡ None }
+    requires may { enter_refusal (state_of graph.old.history) file request ≡ None }
+    ensures gives { EnterGives graph.old graph.new client file request result }
+    ensures legal { IsLegal graph.new.history }
+{
+    match graph.enter(client, file, request) {
+        Ok(()) => Ok(()),
+        Err(AllocError) => Err(note_refusal(graph, client, file, request, Errno::NoMem)),
+    }
+}
+
+/// Lets a client's call enter on a file (`uverbs_ioctl.c`, ib_uverbs_run_method), with
+/// the memory of all its steps. EBADF: the file takes no calls. EIO: its device is unplugged, and the request needs it.
+/// ENOMEM: there is no memory; where there is none for the refused entry either, and none is set aside for the client,
+/// nothing is noted.
+pub fn enter<D: Deed>(
+    graph: &mut Graph<D>,
+    client: u32,
+    file: u32,
+    request: &Request,
+) -> Result<(), Errno>
+    requires client { IsClient client }
+    requires file { file < FILES }
+    requires free { call_of (state_of graph.old.history) client ≡ None }
+    ensures gives { EnterGives graph.old graph.new client file request.now result }
+    ensures legal { IsLegal graph.new.history }
+{
+    match enter_refusal(graph, file, *request) {
+        None => take(graph, client, file, *request),
+        Some(errno) => Err(note_refusal(graph, client, file, *request, errno)),
+    }
+}
+
+/// Refuses a client's call for which its caller has no memory, in room that is set aside for the client. It takes no
+/// memory. The errno is the one that `enter` would answer, and else ENOMEM. This project's own.
+pub fn refuse<D: Deed>(graph: &mut Graph<D>, client: u32, file: u32, request: &Request) -> Errno
+    requires client { IsClient client }
+    requires file { file < FILES }
+    requires free { call_of (state_of graph.old.history) client ≡ None }
+    requires spare { 0 < spare_of graph.old client }
+    ensures errno { result ≡ refusal_without (enter_refusal (state_of graph.old.history) file request.now) }
+    ensures notes { NotesSpared graph.old graph.new (entry.Enter client file request.now (answer.Refused result)) client }
+    ensures legal { IsLegal graph.new.history }
+{
+    let errno = enter_refusal(graph, file, *request).unwrap_or(Errno::NoMem);
+    graph.refuse_in_spare(client, file, *request, errno);
+    errno
+}

@@ -1,0 +1,308 @@
+//! Calls on a graph of plain deeds, played step by step.
+
+ghost use Rattle.std.specs.Prelude.{◌≡◌, ◌↔◌, IsTrue, None, Some};
+ghost use Rattle.uv_machine.specs.declared.entry.Entry.TheVariants as entries;
+ghost use Rattle.uv_machine.specs.Steps.{next_of};
+ghost use Rattle.uv_machine.specs.Histories.{Allowed, state_of};
+ghost use Rattle.uv_graph.specs.Deeds.{told};
+ghost use Rattle.uv_graph.specs.Hands.{ComesPlanted};
+ghost use Rattle.uv_graph.specs.Kept.{out_of};
+ghost use Rattle.uv_graph.specs.Turns.{IsClient, IsReady, IsTouching, is_act, act_finds, role_finds, touches, role_touches};
+
+use super::deeds::{PlainDeed, full_pools};
+use crate::{act, enter, step};
+use std::alloc::{AllocError, Global};
+use uv_graph::{Graph, Progress};
+use uv_machine::{Answer, Done, Word};
+use uv_num::{Act, Errno, Kind, NONE, QpState, Request, Role};
+use uv_pool::Deed;
+
+/// What a step of a call that acts came to.
+#[derive(Clone, Copy, Debug, PartialEq)]
+pub enum Saw {
+    Went(Word),
+    Refused(Word, Errno),
+    Touch(Kind, u32, u32),
+    Ended(Answer),
+    /// A deed was handed out, which no call that acts does.
+    Deed,
+}
+
+/// A graph in which nothing has happened.
+pub fn new_graph(alloc: Global) -> Result<Graph<PlainDeed>, AllocError> {
+    Graph::new(alloc, full_pools(alloc)?)
+}
+
+fn have_same_object(a: Done, b: Done) -> bool
+    ensures { IsTrue result ↔ ((a.word ≡ b.word) × (a.object ≡ b.object)) }
+{
+    a.word == b.word && a.object == b.object
+}
+
+fn have_same_answer(a: Done, b: Done) -> bool
+    ensures { IsTrue result ↔ ((a.found ≡ b.found) × (a.answer ≡ b.answer)) }
+{
+    a.found == b.found && a.answer == b.answer
+}
+
+fn are_same(a: Done, b: Done) -> bool
+    ensures { IsTrue result ↔ (a ≡ b) }
+{
+    have_same_object(a, b) && have_same_answer(a, b)
+}
+
+/// Whether this is the step that the client's call makes next.
+fn is_next(graph: &Graph<PlainDeed>, client: u32, done: Done) -> bool
+    ensures { IsTrue result → next_of (state_of graph.now.history) client None 0 ≡ Some done }
+{
+    match graph.next_step(client, None) {
+        None => false,
+        Some(next) => are_same(next, done),
+    }
+}
+
+/// Whether this is the step that the client's call makes next, and the call has no deed out.
+fn goes(graph: &Graph<PlainDeed>, client: u32, word: Word, object: u32, answer: Answer) -> bool
+    requires { IsClient client }
+    ensures allowed { IsTrue result → Allowed (state_of graph.now.history) (entries.Step client word object None answer) }
+    ensures none { IsTrue result → out_of graph.now client ≡ None }
+{
+    let done = Done {
+        word,
+        object,
+        found: None,
+        answer,
+    };
+    is_next(graph, client, done) && graph.out_of(client).is_none()
+}
+
+fn reserves(graph: &mut Graph<PlainDeed>, client: u32) -> bool
+    requires { IsClient client }
+{
+    if !goes(graph, client, Word::Reserve, NONE, Answer::Ok) {
+        return false;
+    }
+    graph.reserve(client);
+    true
+}
+
+fn looks(graph: &mut Graph<PlainDeed>, client: u32, object: u32) -> bool
+    requires { IsClient client }
+{
+    if !goes(graph, client, Word::Look, object, Answer::Ok) {
+        return false;
+    }
+    graph.look(client, object);
+    true
+}
+
+/// Whether the deed that the client's call has out is planted for the call's new object.
+fn comes_planted(graph: &Graph<PlainDeed>, client: u32, deed: &PlainDeed) -> bool
+    ensures { IsTrue result → ComesPlanted graph.now client (told ⟦<PlainDeed as Deed>⟧.kind_of ⟦<PlainDeed as Deed>⟧.index_of ⟦<PlainDeed as Deed>⟧.generation_of ⟦<PlainDeed as Deed>⟧.is_spent ⟦<PlainDeed as Deed>⟧.is_planted ⟦<PlainDeed as Deed>⟧.identity_of ⟦<PlainDeed as Deed>⟧.lives_of deed.now) }
+{
+    let Some(out) = graph.out_of(client) else {
+        return false;
+    };
+    match graph.object_with(out.object) {
+        None => false,
+        Some(x) => x.phase.is_made() && deed.is_planted_for(x),
+    }
+}
+
+/// Makes an object, and plants the deed of its cell at once.
+fn makes(graph: &mut Graph<PlainDeed>, client: u32, object: u32) -> bool
+    requires { IsClient client }
+{
+    if !goes(graph, client, Word::Make, object, Answer::Ok) {
+        return false;
+    }
+    let deed = graph.make(client, object);
+    plants(graph, client, object, deed)
+}
+
+fn plants(graph: &mut Graph<PlainDeed>, client: u32, object: u32, deed: PlainDeed) -> bool {
+    let mut deed = deed;
+    if let Some(x) = graph.object_with(object) {
+        deed.plant(x);
+    }
+    if !comes_planted(graph, client, &deed) {
+        return false;
+    }
+    graph.planted(client, deed);
+    true
+}
+
+fn commits(graph: &mut Graph<PlainDeed>, client: u32, object: u32) -> bool
+    requires { IsClient client }
+{
+    if !goes(graph, client, Word::Commit, object, Answer::Ok) {
+        return false;
+    }
+    graph.commit(client, object);
+    true
+}
+
+fn frees(graph: &mut Graph<PlainDeed>, client: u32, object: u32) -> bool
+    requires { IsClient client }
+{
+    if !goes(graph, client, Word::Free, object, Answer::Ok) {
+        return false;
+    }
+    graph.free(client, object);
+    true
+}
+
+fn exits(graph: &mut Graph<PlainDeed>, client: u32, answer: Answer) -> bool
+    requires { IsClient client }
+{
+    if !goes(graph, client, Word::Exit, NONE, answer) {
+        return false;
+    }
+    graph.exit(client, answer);
+    true
+}
+
+/// Makes the next step of a create that meets no refusal.
+fn creates(graph: &mut Graph<PlainDeed>, client: u32) -> bool
+    requires { IsClient client }
+{
+    let Some(done) = graph.next_step(client, None) else {
+        return false;
+    };
+    match done.word {
+        Word::Reserve => reserves(graph, client),
+        Word::Look => looks(graph, client, done.object),
+        Word::Make => makes(graph, client, done.object),
+        Word::Commit => commits(graph, client, done.object),
+        Word::Free => frees(graph, client, done.object),
+        Word::Exit => exits(graph, client, done.answer),
+        Word::Act | Word::Lock | Word::Check | Word::Finish | Word::Abort => false,
+    }
+}
+
+/// Client 1 asks for something on file 0.
+pub fn asks(graph: &mut Graph<PlainDeed>, request: Request) -> Option<Result<(), Errno>> {
+    if graph.call_of(1).is_some() {
+        return None;
+    }
+    Some(enter(graph, 1, 0, &request))
+}
+
+/// Client 1 makes an object of file 0.
+pub fn is_created(graph: &mut Graph<PlainDeed>, request: Request) -> bool {
+    if asks(graph, request) != Some(Ok(())) {
+        return false;
+    }
+    for _turn in 0..16 {
+        if graph.call_of(1).is_none() {
+            return true;
+        }
+        if !creates(graph, 1) {
+            return false;
+        }
+    }
+    false
+}
+
+fn is_act(role: Role) -> bool
+    ensures { result ≡ is_act role }
+{
+    match role {
+        Role::Creates(_) | Role::Destroys(_) => false,
+        Role::Acts(_) => true,
+    }
+}
+
+fn touches(what: Act) -> bool
+    ensures { result ≡ touches what }
+{
+    match what {
+        Act::Modify { .. } | Act::Query | Act::Bind { .. } | Act::Unbind { .. } => true,
+        Act::Async => false,
+    }
+}
+
+fn role_touches(role: Role) -> bool
+    ensures { result ≡ role_touches role }
+{
+    match role {
+        Role::Creates(_) | Role::Destroys(_) => false,
+        Role::Acts(what) => touches(what),
+    }
+}
+
+fn act_finds(what: Act) -> bool
+    ensures { result ≡ act_finds what }
+{
+    match what {
+        Act::Modify { .. } | Act::Query => true,
+        Act::Bind { .. } | Act::Unbind { .. } | Act::Async => false,
+    }
+}
+
+fn role_finds(role: Role) -> bool
+    ensures { result ≡ role_finds role }
+{
+    match role {
+        Role::Creates(_) | Role::Destroys(_) => false,
+        Role::Acts(what) => act_finds(what),
+    }
+}
+
+fn is_ready(graph: &Graph<PlainDeed>, client: u32) -> bool
+    requires { IsClient client }
+    ensures { IsTrue result → IsReady is_act graph.now client }
+{
+    match graph.call_of(client) {
+        None => false,
+        Some(call) => graph.out_of(client).is_none() && is_act(call.request.role()),
+    }
+}
+
+fn is_touching(graph: &Graph<PlainDeed>, client: u32, found: Option<QpState>) -> bool
+    requires { IsClient client }
+    ensures { IsTrue result → IsTouching graph.now client found }
+{
+    match graph.call_of(client) {
+        None => false,
+        Some(call) => graph.out_of(client).is_none()
+            && call.next_word() == Word::Act
+            && role_touches(call.request.role())
+            && found.is_some() == role_finds(call.request.role()),
+    }
+}
+
+/// Client 1 makes the next step of a call that acts.
+pub fn goes_on(graph: &mut Graph<PlainDeed>) -> Option<Saw> {
+    if !is_ready(graph, 1) {
+        return None;
+    }
+    Some(match step(graph, 1) {
+        Progress::Went(word) => Saw::Went(word),
+        Progress::Refused(word, errno) => Saw::Refused(word, errno),
+        Progress::Touch {
+            kind,
+            index,
+            generation,
+        } => Saw::Touch(kind, index, generation),
+        Progress::Ended(answer) => Saw::Ended(answer),
+        Progress::Plant { .. } | Progress::Retire { .. } => Saw::Deed,
+    })
+}
+
+/// Client 1 acts on the cell that its step told.
+pub fn acts(graph: &mut Graph<PlainDeed>, found: Option<QpState>) -> Option<Answer> {
+    if !is_touching(graph, 1, found) {
+        return None;
+    }
+    Some(act(graph, 1, found))
+}
+
+/// A device is pulled.
+pub fn unplugs(graph: &mut Graph<PlainDeed>) -> bool {
+    if graph.is_unplugged(0) {
+        return false;
+    }
+    graph.unplug(0);
+    true
+}
