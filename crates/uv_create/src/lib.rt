@@ -7,3 +7,6 @@
 mod creating;
 
 pub use creating::{planted, step};
+
+#[cfg(test)]
+mod tests;
