@@ -29,6 +29,16 @@ pub const REGION_ACCESS: u64 = QP_ACCESS | ACCESS_MW_BIND;
 /// The rights that a window can have: reads and writes by the other side.
 pub const WINDOW_ACCESS: u64 = ACCESS_REMOTE_WRITE | ACCESS_REMOTE_READ;
 
+const _: () = prove!(ACCESS_LOCAL_WRITE == 1 << 0);
+
+const _: () = prove!(ACCESS_REMOTE_WRITE == 1 << 1);
+
+const _: () = prove!(ACCESS_REMOTE_READ == 1 << 2);
+
+const _: () = prove!(ACCESS_REMOTE_ATOMIC == 1 << 3);
+
+const _: () = prove!(ACCESS_MW_BIND == 1 << 4);
+
 const _: () = prove!(QP_ACCESS == 15);
 
 const _: () = prove!(REGION_ACCESS == 31);

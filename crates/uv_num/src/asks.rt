@@ -125,37 +125,166 @@ impl Request {
 #[cfg(test)]
 mod tests {
     use super::*;
-    use std::test::Fail;
+    use crate::QpAttrs;
+    use std::process::Abort;
 
-    #[test]
-    fn a_queue_pair_looks_at_its_four_arguments_in_order(rt: HostRuntime) -> Result<(), Fail> {
-        let request = Request::CreateQp {
-            pd: 1,
-            send_cq: 2,
-            recv_cq: 3,
-            srq: Some(4),
-            service: 2,
-            send_depth: 1,
-            recv_depth: 1,
-        };
-        let want = [
-            Some(asked(Kind::Pd, 1)),
-            Some(asked(Kind::Cq, 2)),
-            Some(asked(Kind::Cq, 3)),
-            Some(asked(Kind::Srq, 4)),
-            None,
-        ];
-        assert_eq!(rt; request.looks().len(), 4);
-        for (place, ask) in want.iter().enumerate() {
-            assert_eq!(rt; request.looks().get(place), *ask);
+    /// What a request looks at: kinds and handles, the first one first.
+    type Wanted = [Option<(Kind, u32)>; 4];
+
+    const NOTHING: Wanted = [None, None, None, None];
+
+    const MAKES: [(Request, Wanted); 8] = [
+        (Request::AllocPd, NOTHING),
+        (Request::CreateChannel, NOTHING),
+        (
+            Request::CreateCq {
+                depth: 9,
+                channel: Some(1),
+            },
+            [Some((Kind::Channel, 1)), None, None, None],
+        ),
+        (
+            Request::CreateQp {
+                pd: 1,
+                send_cq: 2,
+                recv_cq: 3,
+                srq: Some(4),
+                service: 9,
+                send_depth: 9,
+                recv_depth: 9,
+            },
+            [
+                Some((Kind::Pd, 1)),
+                Some((Kind::Cq, 2)),
+                Some((Kind::Cq, 3)),
+                Some((Kind::Srq, 4)),
+            ],
+        ),
+        (
+            Request::CreateSrq { pd: 1, depth: 9 },
+            [Some((Kind::Pd, 1)), None, None, None],
+        ),
+        (
+            Request::CreateAh { pd: 1, device: 9 },
+            [Some((Kind::Pd, 1)), None, None, None],
+        ),
+        (
+            Request::RegMr {
+                pd: 1,
+                length: 9,
+                access: 9,
+            },
+            [Some((Kind::Pd, 1)), None, None, None],
+        ),
+        (
+            Request::AllocMw { pd: 1 },
+            [Some((Kind::Pd, 1)), None, None, None],
+        ),
+    ];
+
+    const DESTROYS: [Request; 8] = [
+        Request::DeallocPd { pd: 1 },
+        Request::DestroyChannel { channel: 1 },
+        Request::DestroyCq { cq: 1 },
+        Request::DestroyQp { qp: 1 },
+        Request::DestroySrq { srq: 1 },
+        Request::DestroyAh { ah: 1 },
+        Request::DeregMr { mr: 1 },
+        Request::DeallocMw { mw: 1 },
+    ];
+
+    /// The requests whose optional handle isn't given.
+    const SHORT: [(Request, Wanted); 3] = [
+        (
+            Request::CreateCq {
+                depth: 9,
+                channel: None,
+            },
+            NOTHING,
+        ),
+        (
+            Request::CreateQp {
+                pd: 1,
+                send_cq: 2,
+                recv_cq: 3,
+                srq: None,
+                service: 9,
+                send_depth: 9,
+                recv_depth: 9,
+            },
+            [
+                Some((Kind::Pd, 1)),
+                Some((Kind::Cq, 2)),
+                Some((Kind::Cq, 3)),
+                None,
+            ],
+        ),
+        (
+            Request::BindMw {
+                mw: 1,
+                mr: None,
+                offset: 9,
+                length: 9,
+                access: 9,
+            },
+            [Some((Kind::Mw, 1)), None, None, None],
+        ),
+    ];
+
+    fn looks_at(rt: &impl Abort, request: Request, wanted: Wanted) {
+        let looks = request.looks();
+        for (place, ask) in wanted.iter().enumerate() {
+            let wanted = ask.map(|(kind, handle)| Ask { kind, handle });
+            assert_eq!(rt; looks.get(place), wanted);
         }
-        Ok(())
+        assert_eq!(rt; looks.get(wanted.len()), None);
     }
 
     #[test]
-    fn a_destroy_looks_at_nothing(rt: HostRuntime) -> Result<(), Fail> {
-        assert_eq!(rt; Request::DestroyQp { qp: 3 }.looks(), Asks::Empty);
-        assert_eq!(rt; Request::AllocPd.looks().len(), 0);
-        Ok(())
+    fn creates_look_at_what_they_will_use(rt: HostRuntime) {
+        for (request, wanted) in MAKES.iter() {
+            looks_at(&rt, *request, *wanted);
+        }
+    }
+
+    #[test]
+    fn handles_that_are_not_given_are_not_looked_at(rt: HostRuntime) {
+        for (request, wanted) in SHORT.iter() {
+            looks_at(&rt, *request, *wanted);
+        }
+    }
+
+    #[test]
+    fn destroys_look_at_nothing(rt: HostRuntime) {
+        for request in DESTROYS.iter() {
+            looks_at(&rt, *request, NOTHING);
+            assert_eq!(rt; request.looks().len(), 0);
+        }
+    }
+
+    #[test]
+    fn what_acts_looks_at_what_it_acts_on(rt: HostRuntime) {
+        let bind = Request::BindMw {
+            mw: 1,
+            mr: Some(2),
+            offset: 9,
+            length: 9,
+            access: 9,
+        };
+        let modify = Request::ModifyQp {
+            qp: 1,
+            to: 9,
+            attrs: QpAttrs::none(),
+        };
+        let pair = [Some((Kind::Qp, 1)), None, None, None];
+        looks_at(&rt, modify, pair);
+        looks_at(&rt, Request::QueryQp { qp: 1 }, pair);
+        looks_at(&rt, Request::GetAsync, NOTHING);
+        looks_at(
+            &rt,
+            bind,
+            [Some((Kind::Mw, 1)), Some((Kind::Mr, 2)), None, None],
+        );
+        assert_eq!(rt; bind.looks().len(), 2);
     }
 }

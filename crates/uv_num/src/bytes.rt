@@ -106,7 +106,7 @@ impl Bytes {
     /// Lets all bytes go. They become spare.
     pub fn clear(&mut self)
         ensures bytes { self.new.bytes ≡ [] }
-        ensures spare { self.old.spare ≤ self.new.spare }
+        ensures spare { length self.old.bytes + self.old.spare ≤ self.new.spare }
     {
         self.items.clear();
     }

@@ -15,6 +15,9 @@ pub const CLIENTS: u32 = 8;
 /// The actors, numbered 1 to `ACTORS`: the clients, the driver and the end of the script.
 pub const ACTORS: u32 = 10;
 
+/// The places of a table by actors: an actor's number is its place, and place 0 is nobody's.
+pub const ACTOR_PLACES: usize = 11;
+
 /// The actor that unplugs devices.
 pub const DRIVER: u32 = 9;
 
@@ -29,6 +32,10 @@ pub const FILES: usize = 16;
 
 /// The handles of a file, numbered from 0.
 pub const HANDLES: usize = 256;
+
+/// The largest number that a command or a script can give for a handle: a handle has 32 bits (`__u32 *_handle` of
+/// `rdma/ib_user_verbs.h`). Only those below `HANDLES` can name an object.
+pub const MOST_HANDLE: u64 = 4_294_967_295;
 
 /// The cells of a kind, over both devices, numbered from 0.
 pub const CELLS: usize = 64;
@@ -83,11 +90,11 @@ pub const FIRST_QP_NUMBER: u32 = 16;
 /// `RXE_MIN_MR_INDEX` of `sw/rxe` (`rxe_param.h`). A region's keys are made of its pool index.
 pub const FIRST_MR_INDEX: u32 = 1;
 
-/// The pool index of the memory window in cell 0, as `RXE_MIN_MW_INDEX` of `sw/rxe` (`rxe_param.h`): behind the pool
+/// The pool index of the memory window in cell 0, as `RXE_MIN_MW_INDEX` of `sw/rxe` (`rxe_param.h`): above the pool
 /// indices of regions. The number is this project's own.
 pub const FIRST_MW_INDEX: u32 = 4_097;
 
-/// The variants of a key: its low 8 bits, behind the pool index (`rxe_mr.c`, `rxe_get_next_key`).
+/// The variants of a key: its low 8 bits, below the pool index (`rxe_mr.c`, `rxe_get_next_key`).
 pub const KEY_VARIANTS: u32 = 256;
 
 /// The path MTUs, in bytes: those of `enum ib_mtu` of Linux (`rdma/ib_verbs.h`).
@@ -118,11 +125,16 @@ pub const SCRIPT_BYTES: usize = 1_048_576;
 /// The lines of a script.
 pub const SCRIPT_LINES: usize = 20_000;
 
+/// The characters of a name in a script.
+pub const NAME_CHARACTERS: usize = 16;
+
 /// The hexadecimal digits with which a script spells bytes, two for each byte.
 pub const HEX_DIGITS: usize = 8_192;
 
 /// The posts of a script.
 pub const SCRIPT_POSTS: usize = 4_000;
+
+// What one limit owes another.
 
 const _: () = prove!(MOST_OBJECTS == FILES * HANDLES);
 
@@ -134,8 +146,99 @@ const _: () = prove!(ENDER == CLIENTS + 2);
 
 const _: () = prove!(ACTORS == ENDER);
 
+const _: () = prove!(ACTOR_PLACES == ACTORS as usize + 1);
+
 const _: () = prove!(NONE == u32::MAX);
+
+const _: () = prove!(MOST_HANDLE == NONE as u64);
 
 const _: () = prove!(MOST_GENERATION == (1 << 30) - 1);
 
 const _: () = prove!(FIRST_MR_INDEX as usize + CELLS <= FIRST_MW_INDEX as usize);
+
+// Each limit once more, as it is meant: a definition that cites a constant follows the constant, so no other place would
+// notice a change.
+
+const _: () = prove!(KINDS == 8);
+
+const _: () = prove!(DEVICES == 2);
+
+const _: () = prove!(CLIENTS == 8);
+
+const _: () = prove!(ACTORS == 10);
+
+const _: () = prove!(PACKET_WORKERS == 4);
+
+const _: () = prove!(FILES == 16);
+
+const _: () = prove!(HANDLES == 256);
+
+const _: () = prove!(CELLS == 64);
+
+const _: () = prove!(MOST_GENERATION == 1_073_741_823);
+
+const _: () = prove!(MOST_OBJECTS == 4_096);
+
+const _: () = prove!(REGION_BYTES == 65_536);
+
+const _: () = prove!(WORK_BYTES == 16_384);
+
+const _: () = prove!(WORK_PARTS == 4);
+
+const _: () = prove!(LENT_REGIONS == 6);
+
+const _: () = prove!(QUEUE_DEPTH == 128);
+
+const _: () = prove!(CQ_DEPTH == 1_024);
+
+const _: () = prove!(CHANNEL_EVENTS == 1_024);
+
+const _: () = prove!(PORTS == 1);
+
+const _: () = prove!(PKEYS == 1);
+
+const _: () = prove!(QKEYS == 4_294_967_296);
+
+const _: () = prove!(PSNS == 16_777_216);
+
+const _: () = prove!(QP_NUMBERS == 16_777_216);
+
+const _: () = prove!(FIRST_QP_NUMBER == 16);
+
+const _: () = prove!(FIRST_MR_INDEX == 1);
+
+const _: () = prove!(FIRST_MW_INDEX == 4_097);
+
+const _: () = prove!(KEY_VARIANTS == 256);
+
+const _: () = prove!(MOST_TIME == 31);
+
+const _: () = prove!(MOST_RETRIES == 7);
+
+const _: () = prove!(MOST_READS == 16);
+
+const _: () = prove!(PACKET_PAYLOAD == 4_096);
+
+const _: () = prove!(PACKET_BYTES == 4_160);
+
+const _: () = prove!(LINK_FRAMES == 1_024);
+
+const _: () = prove!(SCRIPT_BYTES == 1_048_576);
+
+const _: () = prove!(SCRIPT_LINES == 20_000);
+
+const _: () = prove!(NAME_CHARACTERS == 16);
+
+const _: () = prove!(HEX_DIGITS == 8_192);
+
+const _: () = prove!(SCRIPT_POSTS == 4_000);
+
+const _: () = prove!(MTUS[0] == 256);
+
+const _: () = prove!(MTUS[1] == 512);
+
+const _: () = prove!(MTUS[2] == 1024);
+
+const _: () = prove!(MTUS[3] == 2048);
+
+const _: () = prove!(MTUS[4] == 4096);

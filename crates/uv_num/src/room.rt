@@ -1,7 +1,8 @@
 //! Lists with room for a constant number of items.
 
-ghost use Rattle.std.specs.Prelude.{◌≡◌, [], ◌∷◌, ◌++◌, ◌<◌, ◌==◌, nat_le, length, slice_get, remove, IfOk, IsSome, ◌↔◌, option_to_list};
+ghost use Rattle.std.specs.Prelude.{◌≡◌, [], ◌∷◌, ◌++◌, ◌<◌, ◌≤◌, ◌==◌, nat_le, length, slice_get, remove, IfOk, IsSome, ◌↔◌, option_to_list};
 ghost use Rattle.std.specs.Option.{option_copied};
+ghost use Rattle.std.specs.List.{insert};
 ghost use Rattle.std.specs.List.Retain.{IsFiltered};
 ghost use Rattle.std.specs.Fn.{CalledAt};
 
@@ -132,6 +133,18 @@ impl<T: Drop, const MOST: usize> Room<T, MOST> {
         }
     }
 
+    /// Puts an item at a place, before the one that stands there.
+    pub fn insert(&mut self, at: usize, item: T)
+        requires place { at ≤ length self.old }
+        requires room { length self.old < MOST }
+        ensures { self.new ≡ insert self.old at item }
+    {
+        match self.items.insert(at, item) {
+            Ok(()) => {}
+            Err(_) => unreachable!(),
+        }
+    }
+
     /// Lets all items go.
     pub fn clear(&mut self)
         ensures { self.new ≡ [] }
@@ -184,6 +197,9 @@ mod tests {
         room.put(5);
         assert_eq!(rt; room.remove(0), 4);
         assert_eq!(rt; room.pop(), Some(5));
+        room.insert(0, 7);
+        room.insert(0, 8);
+        assert_eq!(rt; room.as_slice(), [8, 7].as_slice());
         room.retain(|item| *item != 6);
         room.clear();
         assert!(rt; room.into_vec().is_empty());

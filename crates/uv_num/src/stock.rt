@@ -145,6 +145,14 @@ impl<T: Drop> Stock<T> {
         self.room -= 1;
     }
 
+    /// Lets all items go. The room stays.
+    pub fn clear(&mut self)
+        ensures items { self.new.items ≡ [] }
+        ensures room { self.new.room ≡ self.old.room }
+    {
+        self.items.clear();
+    }
+
     /// Keeps the items that a test passes, in their order. The room stays.
     pub fn retain<F: FnMut(&T) -> bool>(&mut self, f: F)
         requires { F.IsAlwaysCallable f }
@@ -202,6 +210,10 @@ mod tests {
         stock.put(5);
         assert_eq!(rt; stock.remove(0), 4);
         stock.retain(|item| *item != 5);
+        assert!(rt; stock.is_empty());
+        stock.widen(1)?;
+        stock.put(6);
+        stock.clear();
         assert!(rt; stock.into_vec().is_empty());
         Ok(())
     }
