@@ -5,6 +5,7 @@ use Rattle.std.specs.List.{list_any, flat_map, AllByRecursion}
 use Rattle.std.specs.Int.{w16, w32, w64, to_le_bytes}
 use Rattle.uv_attr.specs.declared.call.Attr.{Attr}
 use Rattle.uv_attr.specs.declared.call.Call.{Call}
+use Rattle.uv_attr.specs.declared.call.TheConstants.{ATTR_BYTES, HEADER_BYTES, MOST_ATTRS}
 
 -- bit 0 says that the method has to know the attribute, bit 1 that the kernel writes it
 abbrev pub flags_of : Attr → ℕ
@@ -17,10 +18,10 @@ attr_bytes a = to_le_bytes w16 a.id ++ to_le_bytes w16 a.len ++ to_le_bytes w16 
 -- length, object_id, method_id, num_attrs, reserved1, driver_id and reserved2
 abbrev pub header_bytes : Call → List ℕ
 header_bytes c =
-    to_le_bytes w16 (24 + 16 * length c.attrs) ++ to_le_bytes w16 c.object ++ to_le_bytes w16 c.method ++ to_le_bytes w16 (length c.attrs)
+    to_le_bytes w16 (HEADER_BYTES + ATTR_BYTES * length c.attrs) ++ to_le_bytes w16 c.object ++ to_le_bytes w16 c.method ++ to_le_bytes w16 (length c.attrs)
     ++ to_le_bytes w64 0 ++ to_le_bytes w32 c.driver ++ to_le_bytes w32 0
 
--- the header, and the attributes behind it
+-- the header, and then the attributes
 abbrev pub call_bytes : Call → List ℕ
 call_bytes c = header_bytes c ++ flat_map attr_bytes c.attrs
 
@@ -36,7 +37,7 @@ ids_of attrs = map (λ a. a.id) attrs
 -- the bytes are that call's, and it has no more attributes than a command may, each with an id of its own
 pub record IsCommand (bytes : List ℕ) (call : Call) : Type 0 where
   pub spelled : bytes ≡ call_bytes call
-  pub few : length call.attrs ≤ 32
+  pub few : length call.attrs ≤ MOST_ATTRS
   pub distinct : repeats (ids_of call.attrs) ≡ false
 
 -- each number is one that its field holds

@@ -3,6 +3,7 @@ use Rattle.std.specs.Prelude.{ℕ, zero, suc, ◌/◌, ◌%◌, ◌==◌, List, 
 use Rattle.std.specs.Int.{w16, w32, w64}
 use Rattle.uv_attr.specs.declared.call.Attr.{Attr}
 use Rattle.uv_attr.specs.declared.call.Call.{Call}
+use Rattle.uv_attr.specs.declared.call.TheConstants.{ATTR_BYTES, HEADER_BYTES}
 use Rattle.uv_attr.specs.Fields.{field}
 
 -- the fields of the header
@@ -29,14 +30,14 @@ pub record RawAttr : Type 0 where
 abbrev pub raw_of : List ℕ → RawAttr
 raw_of bytes = record { id = field w16 0 bytes; len = field w16 2 bytes; flags = field w16 4 bytes; attr_data = field w16 6 bytes; value = field w64 8 bytes }
 
--- so many of them, one behind the other
+-- so many of them, one after the other
 unfoldable pub raws : ℕ → List ℕ → List RawAttr
 raws zero bytes = []
-raws (suc n) bytes = raw_of bytes ∷ raws n (drop 16 bytes)
+raws (suc n) bytes = raw_of bytes ∷ raws n (drop ATTR_BYTES bytes)
 
--- those that stand behind a header
+-- those that follow a header
 abbrev pub raws_of : List ℕ → List RawAttr
-raws_of bytes = raws (attr_count bytes) (drop 24 bytes)
+raws_of bytes = raws (attr_count bytes) (drop HEADER_BYTES bytes)
 
 -- an attribute by its flag bits
 abbrev pub attr_of : RawAttr → Attr

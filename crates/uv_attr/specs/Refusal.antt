@@ -1,6 +1,7 @@
 -- When bytes are refused: the first case of five that applies. The cases and their order are this project's own.
 use Rattle.std.specs.Prelude.{ℕ, ◌+◌, ◌*◌, Bool, not, ◌||◌, ◌==◌, nat_lt, if◌then◌else◌, List, length, map, Option, Some, None}
 use Rattle.std.specs.List.{list_any}
+use Rattle.uv_attr.specs.declared.call.TheConstants.{ATTR_BYTES, HEADER_BYTES, KNOWN_FLAGS, MOST_ATTRS}
 use Rattle.uv_attr.specs.declared.fault.CallFault.{CallFault}
 use Rattle.uv_attr.specs.declared.fault.CallFault.TheVariants.{Inval, ProtoNoSupport}
 use Rattle.uv_attr.specs.Command.{repeats}
@@ -8,11 +9,11 @@ use Rattle.uv_attr.specs.Reading.{stated_length, attr_count, reserved1, reserved
 
 -- 1. there are fewer bytes than a header has
 abbrev pub is_short : List ℕ → Bool
-is_short bytes = nat_lt (length bytes) 24
+is_short bytes = nat_lt (length bytes) HEADER_BYTES
 
 -- 2. the length isn't that of a header with so many attributes, or not that of the bytes
 abbrev pub is_misstated : List ℕ → Bool
-is_misstated bytes = not (stated_length bytes == 24 + 16 * attr_count bytes) || not (stated_length bytes == length bytes)
+is_misstated bytes = not (stated_length bytes == HEADER_BYTES + ATTR_BYTES * attr_count bytes) || not (stated_length bytes == length bytes)
 
 -- 3. a reserved field of the header isn't 0
 abbrev pub has_reserved : List ℕ → Bool
@@ -20,11 +21,11 @@ has_reserved bytes = not (reserved1 bytes == 0) || not (reserved2 bytes == 0)
 
 -- 4. there are more attributes than a command may have
 abbrev pub is_long : List ℕ → Bool
-is_long bytes = nat_lt 32 (attr_count bytes)
+is_long bytes = nat_lt MOST_ATTRS (attr_count bytes)
 
 -- 5. an attribute has a flag that isn't known, or its attr_data isn't 0, or an earlier one has its id
 abbrev pub is_malformed : RawAttr → Bool
-is_malformed r = nat_lt 3 r.flags || not (r.attr_data == 0)
+is_malformed r = nat_lt KNOWN_FLAGS r.flags || not (r.attr_data == 0)
 
 abbrev pub raw_ids : List RawAttr → List ℕ
 raw_ids rs = map (λ r. r.id) rs

@@ -11,6 +11,17 @@ pub const ATTR_BYTES: usize = 16;
 /// The most attributes of a call. This project's own: Linux has as many as fit a page.
 pub const MOST_ATTRS: u16 = 32;
 
+/// The flags that are known, all set: `UVERBS_ATTR_F_MANDATORY` and `UVERBS_ATTR_F_VALID_OUTPUT`.
+pub const KNOWN_FLAGS: u16 = 3;
+
+const _: () = prove!(HEADER_BYTES == 24);
+
+const _: () = prove!(ATTR_BYTES == 16);
+
+const _: () = prove!(MOST_ATTRS == 32);
+
+const _: () = prove!(KNOWN_FLAGS == 3);
+
 /// An attribute of a call, as `struct ib_uverbs_attr`.
 #[derive(Clone, Copy, Debug, PartialEq, Eq)]
 pub struct Attr {

@@ -1,6 +1,7 @@
 //! From bytes to a call.
 
 ghost use Rattle.std.specs.Prelude.{◌≡◌, ◌≤◌, ◌+◌, ◌*◌, length, map, IfOk, IfErr, OnOk, Some, None, Err};
+ghost use Rattle.uv_attr.specs.declared.call.TheConstants.{ATTR_BYTES, HEADER_BYTES};
 ghost use Rattle.uv_attr.specs.declared.fault.CallFault.{CallFault};
 ghost use Rattle.uv_attr.specs.declared.fault.CallFault.TheVariants.{NoMemory};
 ghost use Rattle.uv_attr.specs.Command.{IsCommand};
@@ -15,7 +16,7 @@ use std::alloc::{AllocError, Global};
 use uv_num::List;
 
 fn attr_at(bytes: &[u8]) -> Attr
-    requires { 16 ≤ length bytes.now }
+    requires { ATTR_BYTES ≤ length bytes.now }
     ensures { result ≡ attr_of (raw_of bytes.now) }
 {
     let flags = u16_at(bytes, 4);
@@ -29,7 +30,7 @@ fn attr_at(bytes: &[u8]) -> Attr
 }
 
 fn attrs_at(alloc: Global, count: usize, bytes: &[u8]) -> Result<List<Attr>, AllocError>
-    requires { 16 * count ≤ length bytes.now }
+    requires { ATTR_BYTES * count ≤ length bytes.now }
     ensures { IfOk result (λ attrs. attrs ≡ map attr_of (raws count bytes.now)) }
 {
     let mut attrs = List::new(alloc);
@@ -43,7 +44,7 @@ fn attrs_at(alloc: Global, count: usize, bytes: &[u8]) -> Result<List<Attr>, All
 }
 
 fn call_at(alloc: Global, bytes: &[u8]) -> Result<Call, AllocError>
-    requires { 24 + 16 * attr_count bytes.now ≤ length bytes.now }
+    requires { HEADER_BYTES + ATTR_BYTES * attr_count bytes.now ≤ length bytes.now }
     ensures { IfOk result (λ call. call ≡ call_of bytes.now) }
 {
     let count = u16_at(bytes, 6) as usize;
@@ -60,6 +61,7 @@ fn call_at(alloc: Global, bytes: &[u8]) -> Result<Call, AllocError>
 fn read_call(alloc: Global, bytes: &[u8]) -> Result<Call, CallFault>
     ensures refused { (fault : CallFault) → refusal_of bytes.now ≡ Some fault → result ≡ Err fault }
     ensures memory { refusal_of bytes.now ≡ None → IfErr result (λ fault. fault ≡ NoMemory) }
+    ensures taken { IfErr result (λ fault. fault ≡ NoMemory → refusal_of bytes.now ≡ None) }
     ensures accepted { OnOk result (refusal_of bytes.now ≡ None) }
     ensures read { IfOk result (λ call. call ≡ call_of bytes.now) }
 {
@@ -78,6 +80,7 @@ fn read_call(alloc: Global, bytes: &[u8]) -> Result<Call, CallFault>
 pub fn decode_call(alloc: Global, bytes: &[u8]) -> Result<Call, CallFault>
     ensures refused { (fault : CallFault) → refusal_of bytes.now ≡ Some fault → result ≡ Err fault }
     ensures memory { refusal_of bytes.now ≡ None → IfErr result (λ fault. fault ≡ NoMemory) }
+    ensures taken { IfErr result (λ fault. fault ≡ NoMemory → refusal_of bytes.now ≡ None) }
     ensures read { IfOk result (λ call. call ≡ call_of bytes.now) }
     ensures command { IfOk result (λ call. IsCommand bytes.now call) }
 {

@@ -2,6 +2,7 @@
 
 ghost use Rattle.std.specs.Prelude.{◌≡◌, ◌≤◌, ◌++◌, ◌==◌, false, length, IfOk, OnOk};
 ghost use Rattle.std.specs.List.{list_any};
+ghost use Rattle.uv_attr.specs.declared.call.TheConstants.{MOST_ATTRS};
 ghost use Rattle.uv_attr.specs.Command.{flags_of, attr_bytes, header_bytes, call_bytes, repeats, ids_of};
 
 use crate::call::{ATTR_BYTES, Attr, Call, HEADER_BYTES};
@@ -29,7 +30,7 @@ fn put_attr(out: &mut Bytes, attr: &Attr) -> Result<(), AllocError>
 }
 
 fn put_header(out: &mut Bytes, call: &Call) -> Result<(), AllocError>
-    requires { length call.now.attrs ≤ 32 }
+    requires { length call.now.attrs ≤ MOST_ATTRS }
     ensures { OnOk result (out.new.bytes ≡ out.old.bytes ++ header_bytes call.now) }
 {
     let count = call.attrs.len();
@@ -45,7 +46,7 @@ fn put_header(out: &mut Bytes, call: &Call) -> Result<(), AllocError>
 
 /// The bytes of a call of at most `MOST_ATTRS` attributes, each with an id of its own.
 pub fn encode_call(alloc: Global, call: &Call) -> Result<Bytes, AllocError>
-    requires few { length call.now.attrs ≤ 32 }
+    requires few { length call.now.attrs ≤ MOST_ATTRS }
     requires distinct { repeats (ids_of call.now.attrs) ≡ false }
     ensures { IfOk result (λ out. out.bytes ≡ call_bytes call.now) }
 {

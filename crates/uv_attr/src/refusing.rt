@@ -1,20 +1,19 @@
 //! The five cases in which bytes are refused, in their order. None of them takes memory.
 
-ghost use Rattle.std.specs.Prelude.{◌≡◌, ◌≤◌, ◌*◌, ◌==◌, length};
+ghost use Rattle.std.specs.Prelude.{◌≡◌, ◌≢◌, ◌≤◌, ◌*◌, ◌==◌, length, IfSome};
 ghost use Rattle.std.specs.List.{list_any};
+ghost use Rattle.uv_attr.specs.declared.call.TheConstants.{ATTR_BYTES, HEADER_BYTES};
+ghost use Rattle.uv_attr.specs.declared.fault.CallFault.TheVariants.{NoMemory};
 ghost use Rattle.uv_attr.specs.Command.{repeats};
 ghost use Rattle.uv_attr.specs.Reading.{raw_of, raws, raws_of};
 ghost use Rattle.uv_attr.specs.Refusal.{is_misstated, has_reserved, is_malformed, raw_ids, has_wrong, refusal_of};
 
-use crate::call::{ATTR_BYTES, HEADER_BYTES, MOST_ATTRS};
+use crate::call::{ATTR_BYTES, HEADER_BYTES, KNOWN_FLAGS, MOST_ATTRS};
 use crate::fault::CallFault;
 use crate::fields::{u16_at, u32_at, u64_at};
 
-/// The flags that are known: `UVERBS_ATTR_F_MANDATORY` and `UVERBS_ATTR_F_VALID_OUTPUT`.
-const KNOWN_FLAGS: u16 = 3;
-
 fn is_misstated(bytes: &[u8]) -> bool
-    requires { 24 ≤ length bytes.now }
+    requires { HEADER_BYTES ≤ length bytes.now }
     ensures { result ≡ is_misstated bytes.now }
 {
     let stated = u16_at(bytes, 0) as usize;
@@ -23,21 +22,21 @@ fn is_misstated(bytes: &[u8]) -> bool
 }
 
 fn has_reserved(bytes: &[u8]) -> bool
-    requires { 24 ≤ length bytes.now }
+    requires { HEADER_BYTES ≤ length bytes.now }
     ensures { result ≡ has_reserved bytes.now }
 {
     u64_at(bytes, 8) != 0 || u32_at(bytes, 20) != 0
 }
 
 fn is_malformed(bytes: &[u8]) -> bool
-    requires { 16 ≤ length bytes.now }
+    requires { ATTR_BYTES ≤ length bytes.now }
     ensures { result ≡ is_malformed (raw_of bytes.now) }
 {
     u16_at(bytes, 4) > KNOWN_FLAGS || u16_at(bytes, 6) != 0
 }
 
 fn has_malformed(count: usize, bytes: &[u8]) -> bool
-    requires { 16 * count ≤ length bytes.now }
+    requires { ATTR_BYTES * count ≤ length bytes.now }
     ensures { result ≡ list_any is_malformed (raws count bytes.now) }
 {
     let mut rest = bytes;
@@ -52,7 +51,7 @@ fn has_malformed(count: usize, bytes: &[u8]) -> bool
 }
 
 fn stands_in(id: u16, count: usize, bytes: &[u8]) -> bool
-    requires { 16 * count ≤ length bytes.now }
+    requires { ATTR_BYTES * count ≤ length bytes.now }
     ensures { result ≡ list_any (λ other. other == id) (raw_ids (raws count bytes.now)) }
 {
     let mut rest = bytes;
@@ -67,7 +66,7 @@ fn stands_in(id: u16, count: usize, bytes: &[u8]) -> bool
 }
 
 fn repeats_raw(count: usize, bytes: &[u8]) -> bool
-    requires { 16 * count ≤ length bytes.now }
+    requires { ATTR_BYTES * count ≤ length bytes.now }
     ensures { result ≡ repeats (raw_ids (raws count bytes.now)) }
 {
     let mut rest = bytes;
@@ -83,7 +82,7 @@ fn repeats_raw(count: usize, bytes: &[u8]) -> bool
 }
 
 fn has_wrong(count: usize, bytes: &[u8]) -> bool
-    requires { 16 * count ≤ length bytes.now }
+    requires { ATTR_BYTES * count ≤ length bytes.now }
     ensures { result ≡ has_wrong (raws count bytes.now) }
 {
     has_malformed(count, bytes) || repeats_raw(count, bytes)
@@ -91,7 +90,8 @@ fn has_wrong(count: usize, bytes: &[u8]) -> bool
 
 /// Why the bytes are refused, if they are.
 pub fn refusal(bytes: &[u8]) -> Option<CallFault>
-    ensures { result ≡ refusal_of bytes.now }
+    ensures refused { result ≡ refusal_of bytes.now }
+    ensures named { IfSome result (λ fault. fault ≢ NoMemory) }
 {
     if bytes.len() < HEADER_BYTES {
         return Some(CallFault::Inval);

@@ -9,6 +9,7 @@ use Rattle.uv_num.specs.declared.request.Request.TheVariants.{AllocPd, DeallocPd
 use Rattle.uv_num.specs.Ranges.{is_in_range}
 use Rattle.uv_attr.specs.declared.call.Attr.{Attr}
 use Rattle.uv_attr.specs.declared.call.Call.{Call}
+use Rattle.uv_schema.specs.declared.ids.TheConstants.{VALUE_BYTES}
 use Rattle.uv_schema.specs.declared.method.Method.{Method}
 use Rattle.uv_schema.specs.declared.method.Method.TheVariants as method
 use Rattle.uv_schema.specs.Methods.{Row, row_of}
@@ -67,9 +68,9 @@ values_of (DeallocMw mw) = Some mw ∷ []
 values_of (BindMw mw mr offset length access) = Some mw ∷ mr ∷ Some offset ∷ Some length ∷ Some access ∷ []
 values_of GetAsync = []
 
--- a mandatory attribute of 8 bytes
+-- a mandatory attribute with a value
 abbrev pub attr_for : ℕ → ℕ → Attr
-attr_for id value = record { id = id; len = 8; mandatory = true; output = false; value = value }
+attr_for id value = record { id = id; len = VALUE_BYTES; mandatory = true; output = false; value = value }
 
 -- an attribute for each value that is given, the first of them with this number
 abbrev pub attrs_for : ℕ → List (Option ℕ) → List Attr

@@ -2,6 +2,7 @@
 -- method has. Numbers of objects are those of `enum uverbs_default_objects` of Linux (`rdma/ib_user_ioctl_cmds.h`);
 -- numbers of methods and of attributes are this project's own.
 use Rattle.std.specs.Prelude.{ℕ, Bool, true, false, ◌==◌, ◌&&◌, List, [], ◌∷◌, Option, find}
+use Rattle.uv_schema.specs.declared.ids.TheConstants.{AH_DEVICE, BIND_ACCESS, BIND_LENGTH, BIND_MR, BIND_OFFSET, CQ_CHANNEL, CQ_DEPTH, DOMAIN, MODIFY_ACCESS, MODIFY_DEV, MODIFY_DQPN, MODIFY_MDRA, MODIFY_MRA, MODIFY_MTU, MODIFY_PKEY, MODIFY_PORT, MODIFY_QKEY, MODIFY_RETRY, MODIFY_RNR, MODIFY_RNRTIMER, MODIFY_RQPSN, MODIFY_SQPSN, MODIFY_TIMEOUT, MODIFY_TO, MR_ACCESS, MR_LENGTH, QP_RECV_CQ, QP_RECV_DEPTH, QP_SEND_CQ, QP_SEND_DEPTH, QP_SERVICE, QP_SRQ, SRQ_DEPTH, TARGET}
 use Rattle.uv_schema.specs.declared.method.Method.{Method}
 use Rattle.uv_schema.specs.declared.method.Method.TheVariants.{AllocPd, DeallocPd, CreateChannel, DestroyChannel, CreateCq, DestroyCq, CreateQp, DestroyQp, ModifyQp, QueryQp, CreateSrq, DestroySrq, CreateAh, DestroyAh, RegMr, DeregMr, AllocMw, DeallocMw, BindMw, GetAsync}
 use Rattle.uv_schema.specs.declared.method.Wanted.{Wanted}
@@ -18,26 +19,26 @@ row object number wanted = record { object = object; number = number; wanted = w
 -- the table: object, method, attributes
 abbrev pub row_of : Method → Row
 row_of AllocPd = row 1 1 []
-row_of DeallocPd = row 1 2 (Handle 1 ∷ [])
+row_of DeallocPd = row 1 2 (Handle TARGET ∷ [])
 row_of CreateChannel = row 2 1 []
-row_of DestroyChannel = row 2 2 (Handle 1 ∷ [])
-row_of CreateCq = row 3 1 (Number 1 ∷ MayHandle 2 ∷ [])
-row_of DestroyCq = row 3 2 (Handle 1 ∷ [])
-row_of CreateQp = row 4 1 (Handle 1 ∷ Handle 2 ∷ Handle 3 ∷ MayHandle 4 ∷ Number 5 ∷ Number 6 ∷ Number 7 ∷ [])
-row_of DestroyQp = row 4 2 (Handle 1 ∷ [])
+row_of DestroyChannel = row 2 2 (Handle TARGET ∷ [])
+row_of CreateCq = row 3 1 (Number CQ_DEPTH ∷ MayHandle CQ_CHANNEL ∷ [])
+row_of DestroyCq = row 3 2 (Handle TARGET ∷ [])
+row_of CreateQp = row 4 1 (Handle DOMAIN ∷ Handle QP_SEND_CQ ∷ Handle QP_RECV_CQ ∷ MayHandle QP_SRQ ∷ Number QP_SERVICE ∷ Number QP_SEND_DEPTH ∷ Number QP_RECV_DEPTH ∷ [])
+row_of DestroyQp = row 4 2 (Handle TARGET ∷ [])
 row_of ModifyQp =
-    row 4 3 (Handle 1 ∷ Number 2 ∷ MayNumber 3 ∷ MayNumber 4 ∷ MayNumber 5 ∷ MayNumber 6 ∷ MayNumber 7 ∷ MayNumber 8 ∷ MayNumber 9
-    ∷ MayNumber 10 ∷ MayNumber 11 ∷ MayNumber 12 ∷ MayNumber 13 ∷ MayNumber 14 ∷ MayNumber 15 ∷ MayNumber 16 ∷ MayNumber 17 ∷ [])
-row_of QueryQp = row 4 4 (Handle 1 ∷ [])
-row_of CreateSrq = row 5 1 (Handle 1 ∷ Number 2 ∷ [])
-row_of DestroySrq = row 5 2 (Handle 1 ∷ [])
-row_of CreateAh = row 6 1 (Handle 1 ∷ Number 2 ∷ [])
-row_of DestroyAh = row 6 2 (Handle 1 ∷ [])
-row_of RegMr = row 7 1 (Handle 1 ∷ Number 2 ∷ Number 3 ∷ [])
-row_of DeregMr = row 7 2 (Handle 1 ∷ [])
-row_of AllocMw = row 8 1 (Handle 1 ∷ [])
-row_of DeallocMw = row 8 2 (Handle 1 ∷ [])
-row_of BindMw = row 8 3 (Handle 1 ∷ MayHandle 2 ∷ Number 3 ∷ Number 4 ∷ Number 5 ∷ [])
+    row 4 3 (Handle TARGET ∷ Number MODIFY_TO ∷ MayNumber MODIFY_ACCESS ∷ MayNumber MODIFY_PKEY ∷ MayNumber MODIFY_PORT ∷ MayNumber MODIFY_QKEY ∷ MayNumber MODIFY_DEV ∷ MayNumber MODIFY_MTU ∷ MayNumber MODIFY_TIMEOUT
+    ∷ MayNumber MODIFY_RETRY ∷ MayNumber MODIFY_RNR ∷ MayNumber MODIFY_RQPSN ∷ MayNumber MODIFY_MRA ∷ MayNumber MODIFY_RNRTIMER ∷ MayNumber MODIFY_SQPSN ∷ MayNumber MODIFY_MDRA ∷ MayNumber MODIFY_DQPN ∷ [])
+row_of QueryQp = row 4 4 (Handle TARGET ∷ [])
+row_of CreateSrq = row 5 1 (Handle DOMAIN ∷ Number SRQ_DEPTH ∷ [])
+row_of DestroySrq = row 5 2 (Handle TARGET ∷ [])
+row_of CreateAh = row 6 1 (Handle DOMAIN ∷ Number AH_DEVICE ∷ [])
+row_of DestroyAh = row 6 2 (Handle TARGET ∷ [])
+row_of RegMr = row 7 1 (Handle DOMAIN ∷ Number MR_LENGTH ∷ Number MR_ACCESS ∷ [])
+row_of DeregMr = row 7 2 (Handle TARGET ∷ [])
+row_of AllocMw = row 8 1 (Handle DOMAIN ∷ [])
+row_of DeallocMw = row 8 2 (Handle TARGET ∷ [])
+row_of BindMw = row 8 3 (Handle TARGET ∷ MayHandle BIND_MR ∷ Number BIND_OFFSET ∷ Number BIND_LENGTH ∷ Number BIND_ACCESS ∷ [])
 row_of GetAsync = row 16 1 []
 
 -- the rows, in the order of the table

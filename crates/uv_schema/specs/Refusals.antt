@@ -6,7 +6,9 @@ use Rattle.std.specs.List.{list_any}
 use Rattle.std.specs.Option.{option_or}
 use Rattle.uv_num.specs.declared.errno.Errno.{Errno}
 use Rattle.uv_num.specs.declared.errno.Errno.TheVariants.{Inval, ProtoNoSupport}
+use Rattle.uv_num.specs.declared.limits.TheConstants.{MOST_HANDLE}
 use Rattle.uv_attr.specs.declared.call.Attr.{Attr}
+use Rattle.uv_schema.specs.declared.ids.TheConstants.{VALUE_BYTES}
 use Rattle.uv_schema.specs.declared.method.Method.{Method}
 use Rattle.uv_schema.specs.declared.method.Wanted.{Wanted}
 use Rattle.uv_schema.specs.Methods.{wanted_of, id_of, is_handle, is_required}
@@ -24,7 +26,7 @@ has_wanted wanted id = list_any (λ w. id_of w == id) wanted
 abbrev pub attr_refusal : List Wanted → Attr → Option Errno
 attr_refusal wanted a =
     if has_wanted wanted a.id
-    then (if a.len == 8 then None else Some Inval)
+    then (if a.len == VALUE_BYTES then None else Some Inval)
     else (if a.mandatory then Some ProtoNoSupport else None)
 
 abbrev pub first_refusal : List Wanted → List Attr → Option Errno
@@ -40,7 +42,7 @@ has_missing method attrs = list_any (is_missing attrs) (wanted_of method)
 
 -- 4. a value is out of its range: EINVAL. A handle has 32 bits; the other ranges are those of the request
 abbrev pub is_wide : List Attr → Wanted → Bool
-is_wide attrs w = is_handle w && nat_lt 4294967295 (value_in attrs (id_of w))
+is_wide attrs w = is_handle w && nat_lt MOST_HANDLE (value_in attrs (id_of w))
 
 abbrev pub has_wide : Method → List Attr → Bool
 has_wide method attrs = list_any (is_wide attrs) (wanted_of method)

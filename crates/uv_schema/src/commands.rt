@@ -1,6 +1,8 @@
 //! From command bytes to the request that they ask for.
 
-ghost use Rattle.std.specs.Prelude.{◌≡◌, IfOk};
+ghost use Rattle.std.specs.Prelude.{◌≡◌, IfOk, Ok, Some};
+ghost use Rattle.uv_attr.specs.declared.fault.CallFault.{CallFault};
+ghost use Rattle.uv_attr.specs.Refusal.{refusal_of};
 ghost use Rattle.uv_schema.specs.Commands.{command_of};
 
 use crate::reading::request_of;
@@ -12,10 +14,11 @@ use uv_num::{Errno, Request};
 mod tests;
 
 /// The request that command bytes ask for, or the errno that they are refused with: first as bytes, by
-/// `uv_attr::decode_call`, and then as a call, by `request_of`. Only want of memory has no answer; bytes that are refused
-/// as bytes take none.
+/// `uv_attr::decode_call`, and then as a call, by `request_of`. Only where memory runs out there is no answer; bytes that are refused
+/// as bytes take none, and are always answered.
 pub fn command(alloc: Global, bytes: &[u8]) -> Result<Result<Request, Errno>, AllocError>
-    ensures { IfOk result (λ answer. answer ≡ command_of bytes.now) }
+    ensures refused { (fault : CallFault) → refusal_of bytes.now ≡ Some fault → result ≡ Ok (command_of bytes.now) }
+    ensures answer { IfOk result (λ answer. answer ≡ command_of bytes.now) }
 {
     match decode_call(alloc, bytes) {
         Ok(call) => Ok(request_of(&call)),

@@ -10,6 +10,7 @@ mod attributes;
 mod building;
 mod checking;
 mod commands;
+mod ids;
 mod laws;
 mod method;
 mod numbers;

@@ -3,6 +3,14 @@
 ghost use Rattle.std.specs.Prelude.{◌≡◌};
 ghost use Rattle.uv_schema.specs.Methods.{id_of, is_handle, is_required, method_of, wanted_of};
 
+use crate::ids::{
+    AH_DEVICE, BIND_ACCESS, BIND_LENGTH, BIND_MR, BIND_OFFSET, CQ_CHANNEL, CQ_DEPTH, DOMAIN,
+    MODIFY_ACCESS, MODIFY_DEV, MODIFY_DQPN, MODIFY_MDRA, MODIFY_MRA, MODIFY_MTU, MODIFY_PKEY,
+    MODIFY_PORT, MODIFY_QKEY, MODIFY_RETRY, MODIFY_RNR, MODIFY_RNRTIMER, MODIFY_RQPSN,
+    MODIFY_SQPSN, MODIFY_TIMEOUT, MODIFY_TO, MR_ACCESS, MR_LENGTH, QP_RECV_CQ, QP_RECV_DEPTH,
+    QP_SEND_CQ, QP_SEND_DEPTH, QP_SERVICE, QP_SRQ, SRQ_DEPTH, TARGET,
+};
+
 /// A method of an object: a row of the table, named as the request that it makes.
 #[derive(Clone, Copy, Debug, PartialEq, Eq)]
 pub enum Method {
@@ -94,45 +102,50 @@ impl Method {
             | Method::DestroySrq
             | Method::DestroyAh
             | Method::DeregMr
-            | Method::AllocMw
-            | Method::DeallocMw => &[Wanted::Handle(1)],
-            Method::CreateCq => &[Wanted::Number(1), Wanted::MayHandle(2)],
+            | Method::DeallocMw => &[Wanted::Handle(TARGET)],
+            Method::AllocMw => &[Wanted::Handle(DOMAIN)],
+            Method::CreateCq => &[Wanted::Number(CQ_DEPTH), Wanted::MayHandle(CQ_CHANNEL)],
             Method::CreateQp => &[
-                Wanted::Handle(1),
-                Wanted::Handle(2),
-                Wanted::Handle(3),
-                Wanted::MayHandle(4),
-                Wanted::Number(5),
-                Wanted::Number(6),
-                Wanted::Number(7),
+                Wanted::Handle(DOMAIN),
+                Wanted::Handle(QP_SEND_CQ),
+                Wanted::Handle(QP_RECV_CQ),
+                Wanted::MayHandle(QP_SRQ),
+                Wanted::Number(QP_SERVICE),
+                Wanted::Number(QP_SEND_DEPTH),
+                Wanted::Number(QP_RECV_DEPTH),
             ],
             Method::ModifyQp => &[
-                Wanted::Handle(1),
-                Wanted::Number(2),
-                Wanted::MayNumber(3),
-                Wanted::MayNumber(4),
-                Wanted::MayNumber(5),
-                Wanted::MayNumber(6),
-                Wanted::MayNumber(7),
-                Wanted::MayNumber(8),
-                Wanted::MayNumber(9),
-                Wanted::MayNumber(10),
-                Wanted::MayNumber(11),
-                Wanted::MayNumber(12),
-                Wanted::MayNumber(13),
-                Wanted::MayNumber(14),
-                Wanted::MayNumber(15),
-                Wanted::MayNumber(16),
-                Wanted::MayNumber(17),
+                Wanted::Handle(TARGET),
+                Wanted::Number(MODIFY_TO),
+                Wanted::MayNumber(MODIFY_ACCESS),
+                Wanted::MayNumber(MODIFY_PKEY),
+                Wanted::MayNumber(MODIFY_PORT),
+                Wanted::MayNumber(MODIFY_QKEY),
+                Wanted::MayNumber(MODIFY_DEV),
+                Wanted::MayNumber(MODIFY_MTU),
+                Wanted::MayNumber(MODIFY_TIMEOUT),
+                Wanted::MayNumber(MODIFY_RETRY),
+                Wanted::MayNumber(MODIFY_RNR),
+                Wanted::MayNumber(MODIFY_RQPSN),
+                Wanted::MayNumber(MODIFY_MRA),
+                Wanted::MayNumber(MODIFY_RNRTIMER),
+                Wanted::MayNumber(MODIFY_SQPSN),
+                Wanted::MayNumber(MODIFY_MDRA),
+                Wanted::MayNumber(MODIFY_DQPN),
             ],
-            Method::CreateSrq | Method::CreateAh => &[Wanted::Handle(1), Wanted::Number(2)],
-            Method::RegMr => &[Wanted::Handle(1), Wanted::Number(2), Wanted::Number(3)],
+            Method::CreateSrq => &[Wanted::Handle(DOMAIN), Wanted::Number(SRQ_DEPTH)],
+            Method::CreateAh => &[Wanted::Handle(DOMAIN), Wanted::Number(AH_DEVICE)],
+            Method::RegMr => &[
+                Wanted::Handle(DOMAIN),
+                Wanted::Number(MR_LENGTH),
+                Wanted::Number(MR_ACCESS),
+            ],
             Method::BindMw => &[
-                Wanted::Handle(1),
-                Wanted::MayHandle(2),
-                Wanted::Number(3),
-                Wanted::Number(4),
-                Wanted::Number(5),
+                Wanted::Handle(TARGET),
+                Wanted::MayHandle(BIND_MR),
+                Wanted::Number(BIND_OFFSET),
+                Wanted::Number(BIND_LENGTH),
+                Wanted::Number(BIND_ACCESS),
             ],
         }
     }

@@ -3,13 +3,11 @@
 ghost use Rattle.std.specs.Prelude.{◌≡◌};
 ghost use Rattle.uv_schema.specs.Refusals.{attr_refusal, first_refusal, has_missing, has_wanted, has_wide, is_missing, is_wide};
 
+use crate::ids::VALUE_BYTES;
 use crate::method::{Method, Wanted};
 use crate::values::{is_given, value};
 use uv_attr::Attr;
-use uv_num::Errno;
-
-/// The bytes of an attribute's value.
-const VALUE_BYTES: u16 = 8;
+use uv_num::{Errno, MOST_HANDLE};
 
 fn has_wanted(wanted: &[Wanted], id: u16) -> bool
     ensures { result ≡ has_wanted wanted.now id }
@@ -61,7 +59,7 @@ pub(crate) fn has_missing(method: Method, attrs: &[Attr]) -> bool
 fn is_wide(attrs: &[Attr], wanted: Wanted) -> bool
     ensures { result ≡ is_wide attrs.now wanted }
 {
-    wanted.is_handle() && value(attrs, wanted.id()) > u64::from(u32::MAX)
+    wanted.is_handle() && value(attrs, wanted.id()) > MOST_HANDLE
 }
 
 /// Whether a value is no handle where a handle is wanted.

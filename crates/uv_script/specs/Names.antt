@@ -2,6 +2,7 @@
 use Rattle.std.specs.Prelude.{◌≡◌, ℕ, Bool, ◌==◌, ◌&&◌, ◌||◌, nat_le, List, [], ◌∷◌, length, slice_index, Option, Some, None, if◌then◌else◌}
 use Rattle.std.specs.List.{list_all}
 use Rattle.std.specs.Str.{bytes_eq}
+use Rattle.uv_num.specs.declared.limits.TheConstants.{NAME_CHARACTERS}
 
 abbrev pub is_small_letter : ℕ → Bool
 is_small_letter b = nat_le 97 b && nat_le b 122
@@ -12,9 +13,9 @@ is_name_byte b = is_small_letter b || (nat_le 48 b && nat_le b 57) || b == 95
 abbrev pub are_name_bytes : List ℕ → Bool
 are_name_bytes word = list_all is_name_byte word
 
--- a small letter, and up to 15 small letters, digits or `_`
+-- a small letter, and then small letters, digits or `_`, as many as a name may have
 abbrev pub is_name : List ℕ → Bool
-is_name word = is_small_letter (slice_index word 0) && nat_le (length word) 16 && are_name_bytes word
+is_name word = is_small_letter (slice_index word 0) && nat_le (length word) NAME_CHARACTERS && are_name_bytes word
 
 -- a name with the line that declares it
 pub record Known : Type 0 where

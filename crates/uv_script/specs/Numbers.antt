@@ -2,9 +2,10 @@
 use Rattle.std.specs.Prelude.{ℕ, ◌+◌, ◌-◌, ◌*◌, Bool, true, false, not, ◌==◌, ◌&&◌, ◌||◌, nat_lt, nat_le, List, [], ◌∷◌, length, drop, codes, nat_eq, Option, Some, None, if◌then◌else◌}
 use Rattle.std.specs.Char.{is_ascii_digit}
 use Rattle.std.specs.List.{list_all, starts_with}
+use Rattle.uv_script.specs.declared.numbers.TheConstants.{LIMIT, NUMBER_DIGITS}
 
 abbrev pub below_limit : ℕ → Option ℕ
-below_limit n = if nat_lt n 18446744073709551616 then Some n else None
+below_limit n = if nat_lt n LIMIT then Some n else None
 
 -- there is a first byte, and it is the digit 0 only where it is alone
 abbrev pub has_bare_front : List ℕ → Bool
@@ -35,9 +36,9 @@ is_hex_digit d = (nat_le 48 d && nat_le d 57) || (nat_le 65 d && nat_le d 70) ||
 abbrev pub are_hex_digits : List ℕ → Bool
 are_hex_digits ds = list_all is_hex_digit ds
 
--- 1 to 16 hexadecimal digits
+-- 1 to `NUMBER_DIGITS` hexadecimal digits
 abbrev pub is_hex : List ℕ → Bool
-is_hex ds = nat_le 1 (length ds) && nat_le (length ds) 16 && are_hex_digits ds
+is_hex ds = nat_le 1 (length ds) && nat_le (length ds) NUMBER_DIGITS && are_hex_digits ds
 
 -- what a hexadecimal digit stands for
 abbrev pub hex_digit : ℕ → ℕ

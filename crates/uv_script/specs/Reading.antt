@@ -4,6 +4,7 @@ use Rattle.std.specs.Option.{option_map}
 use Rattle.std.specs.List.{starts_with}
 use Rattle.std.specs.Cmp.Lexicographic.{pointwise}
 use Rattle.uv_num.specs.declared.errno.Errno.{Errno}
+use Rattle.uv_num.specs.declared.limits.TheConstants.{MOST_HANDLE}
 use Rattle.uv_num.specs.declared.request.Request.{Request}
 use Rattle.uv_schema.specs.Commands.{command_of}
 use Rattle.uv_script.specs.Built.{is_built}
@@ -37,7 +38,7 @@ seen (read.Says form) = Says form
 seen (read.Declares form name) = Declares form name.now
 
 abbrev pub as_handle : ℕ → Option Handle
-as_handle n = if nat_le n 4294967295 then Some (Number n) else None
+as_handle n = if nat_le n MOST_HANDLE then Some (Number n) else None
 
 -- `#` and a number below 2^32, or a name that is declared
 abbrev pub handle_of : Look → List ℕ → Option Handle

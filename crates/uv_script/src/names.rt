@@ -5,6 +5,7 @@ ghost use Rattle.uv_script.specs.Names.{is_name, is_small_letter, is_name_byte, 
 
 use std::alloc::{AllocError, Global};
 use std::collections::BTreeMap;
+use uv_num::NAME_CHARACTERS;
 
 /// The names that were declared, each with the line that declares it. They stay in the bytes of the script.
 #[derive(Drop)]
@@ -44,7 +45,7 @@ impl<'a> Names<'a> {
 pub(crate) fn is_name(word: &[u8]) -> bool
     ensures { result ≡ is_name word.now }
 {
-    begins_small(word) && word.len() <= 16 && are_name_bytes(word)
+    begins_small(word) && word.len() <= NAME_CHARACTERS && are_name_bytes(word)
 }
 
 fn begins_small(word: &[u8]) -> bool

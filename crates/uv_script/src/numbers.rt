@@ -51,7 +51,14 @@ fn starts_bare(digits: &[u8]) -> bool
 }
 
 /// One more than the last number.
-const LIMIT: u128 = 18_446_744_073_709_551_616;
+pub const LIMIT: u128 = 18_446_744_073_709_551_616;
+
+/// The hexadecimal digits of a number, at most.
+pub const NUMBER_DIGITS: usize = 16;
+
+const _: () = prove!(LIMIT == 1 << 64);
+
+const _: () = prove!(NUMBER_DIGITS == 16);
 
 /// The digits' value, if it is below 2^64.
 fn decimal_value(digits: &[u8]) -> Option<u64>
@@ -89,7 +96,7 @@ fn hex(digits: &[u8]) -> Option<u64>
 fn is_hex(digits: &[u8]) -> bool
     ensures { result ≡ is_hex digits.now }
 {
-    1 <= digits.len() && digits.len() <= 16 && are_hex_digits(digits)
+    1 <= digits.len() && digits.len() <= NUMBER_DIGITS && are_hex_digits(digits)
 }
 
 fn are_hex_digits(bytes: &[u8]) -> bool

@@ -16,7 +16,7 @@ use crate::splits::{is_plain_text, text_of};
 use crate::words::{next_word, only_word};
 use crate::{Form, Handle};
 use std::alloc::{AllocError, Global};
-use uv_num::{Errno, List, Request};
+use uv_num::{Errno, List, MOST_HANDLE, Request};
 use uv_schema::command;
 
 /// What a line is.
@@ -295,7 +295,7 @@ fn numbered_handle(digits: &[u8]) -> Option<Handle>
 fn as_handle(number: u64) -> Option<Handle>
     ensures { result ≡ as_handle number }
 {
-    if number <= u64::from(u32::MAX) {
+    if number <= MOST_HANDLE {
         Some(Handle::Number(number as u32))
     } else {
         None

@@ -20,6 +20,6 @@ answered : (bytes : List ℕ) (call : Call) (refused : Option CallFault) (answer
 answered bytes call None answer refusal read is = is ∙ ap request_of read
 answered bytes call (Some fault) answer refusal read is = absurd (let no : IsRefused call fault = refusal fault refl in cc)
 
-pub returns-in-Ok : goal.returns-in-Ok
-returns-in-Ok c =
+pub returns-in-Ok-clause-answer : goal.returns-in-Ok-clause-answer
+returns-in-Ok-clause-answer c =
     answered c.args.bytes.now c.in-Ok.call (refusal_of c.args.bytes.now) c.request_of.result c.in-Ok.ensures.refused c.in-Ok.ensures.read c.request_of.ensures
