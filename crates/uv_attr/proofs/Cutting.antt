@@ -12,10 +12,10 @@ use Rattle.uv_attr.specs.declared.call.Attr.{Attr}
 use Rattle.uv_attr.specs.declared.call.Call.{Call}
 use Rattle.uv_attr.specs.declared.fault.CallFault.{CallFault}
 use Rattle.uv_attr.specs.declared.fault.CallFault.TheVariants.{Inval, ProtoNoSupport}
-use Rattle.uv_attr.specs.Fields.{field}
-use Rattle.uv_attr.specs.Command.{flags_of, attr_bytes, header_bytes, call_bytes, repeats, ids_of, IsCommand}
-use Rattle.uv_attr.specs.Reading.{stated_length, attr_count, reserved1, reserved2, RawAttr, raw_of, raws, raws_of, attr_of, call_of}
-use Rattle.uv_attr.specs.Refusal.{is_short, is_misstated, has_reserved, is_long, is_malformed, raw_ids, has_wrong, refusal_of}
+use Rattle.uv_attr.specs.Fields.{field_at}
+use Rattle.uv_attr.specs.Command.{attr_flags, attr_bytes, header_bytes, call_bytes, repeats, attr_ids, IsCommand}
+use Rattle.uv_attr.specs.Reading.{stated_length, attr_count, reserved1, reserved2, RawAttr, raw_of, raws, raws_of, attr_of, call_in}
+use Rattle.uv_attr.specs.Refusal.{lacks_header, is_misstated, has_reserved, is_long, is_malformed, raw_ids, has_wrong, bytes_refusal}
 
 abbrev pub IsBytes : List ℕ → Type 0
 IsBytes bytes = (i : ℕ) → get_or bytes i 0 < 256
@@ -54,18 +54,18 @@ cut_64 bytes fits long =
 
 -- ---- numbers at a place
 
-at_16 : (at : ℕ) (bytes : List ℕ) → IsBytes bytes → at + 2 ≤ length bytes → drop at bytes ≡ to_le_bytes w16 (field w16 at bytes) ++ drop (at + 2) bytes
-unfolding field
+at_16 : (at : ℕ) (bytes : List ℕ) → IsBytes bytes → at + 2 ≤ length bytes → drop at bytes ≡ to_le_bytes w16 (field_at w16 at bytes) ++ drop (at + 2) bytes
+unfolding field_at
 at_16 at bytes fits long =
     cut_16 (drop at bytes) (IsBytes-drop at bytes fits) (omega (arith, length-drop at bytes)) ∙ ap (λ (v : List ℕ). to_le_bytes w16 (from_le_bytes w16 (drop at bytes)) ++ v) (drop-drop 2 at bytes)
 
-at_32 : (at : ℕ) (bytes : List ℕ) → IsBytes bytes → at + 4 ≤ length bytes → drop at bytes ≡ to_le_bytes w32 (field w32 at bytes) ++ drop (at + 4) bytes
-unfolding field
+at_32 : (at : ℕ) (bytes : List ℕ) → IsBytes bytes → at + 4 ≤ length bytes → drop at bytes ≡ to_le_bytes w32 (field_at w32 at bytes) ++ drop (at + 4) bytes
+unfolding field_at
 at_32 at bytes fits long =
     cut_32 (drop at bytes) (IsBytes-drop at bytes fits) (omega (arith, length-drop at bytes)) ∙ ap (λ (v : List ℕ). to_le_bytes w32 (from_le_bytes w32 (drop at bytes)) ++ v) (drop-drop 4 at bytes)
 
-at_64 : (at : ℕ) (bytes : List ℕ) → IsBytes bytes → at + 8 ≤ length bytes → drop at bytes ≡ to_le_bytes w64 (field w64 at bytes) ++ drop (at + 8) bytes
-unfolding field
+at_64 : (at : ℕ) (bytes : List ℕ) → IsBytes bytes → at + 8 ≤ length bytes → drop at bytes ≡ to_le_bytes w64 (field_at w64 at bytes) ++ drop (at + 8) bytes
+unfolding field_at
 at_64 at bytes fits long =
     cut_64 (drop at bytes) (IsBytes-drop at bytes fits) (omega (arith, length-drop at bytes)) ∙ ap (λ (v : List ℕ). to_le_bytes w64 (from_le_bytes w64 (drop at bytes)) ++ v) (drop-drop 8 at bytes)
 
@@ -101,7 +101,7 @@ flags_again (suc (suc (suc (suc f)))) le = absurd (omega arith)
 attr_spelled : (r : RawAttr) → is_malformed r ≡ false → attr_bytes (attr_of r) ≡ raw_bytes r
 attr_spelled r well =
     let parts = or_false (nat_lt 3 r.flags) (not (r.attr_data == 0)) well in
-    let flags : flags_of (attr_of r) ≡ r.flags = flags_again r.flags (ltb-false 3 r.flags parts.0) in
+    let flags : attr_flags (attr_of r) ≡ r.flags = flags_again r.flags (ltb-false 3 r.flags parts.0) in
     let none : 0 ≡ r.attr_data = sym (eqb-true r.attr_data 0 (not_false _ parts.1)) in
     let spell : ℕ → ℕ → List ℕ = λ f d. to_le_bytes w16 r.id ++ to_le_bytes w16 r.len ++ to_le_bytes w16 f ++ to_le_bytes w16 d ++ to_le_bytes w64 r.value in
     ap (λ (f : ℕ). spell f 0) flags ∙ ap (λ (d : ℕ). spell r.flags d) none
@@ -127,7 +127,7 @@ unfolding raws
 raws_length zero bytes = refl
 raws_length (suc n) bytes = ap suc (raws_length n (drop 16 bytes))
 
-pub raws_ids : (rs : List RawAttr) → ids_of (map attr_of rs) ≡ raw_ids rs
+pub raws_ids : (rs : List RawAttr) → attr_ids (map attr_of rs) ≡ raw_ids rs
 raws_ids [] = refl
 raws_ids (r ∷ rs) = ap (λ (v : List ℕ). r.id ∷ v) (raws_ids rs)
 
@@ -139,15 +139,15 @@ header_of stated object method count one driver two =
     ++ to_le_bytes w64 one ++ to_le_bytes w32 driver ++ to_le_bytes w32 two
 
 header_cut : (bytes : List ℕ) → IsBytes bytes → 24 ≤ length bytes
-    → bytes ≡ header_of (field w16 0 bytes) (field w16 2 bytes) (field w16 4 bytes) (field w16 6 bytes) (field w64 8 bytes) (field w32 16 bytes) (field w32 20 bytes) ++ drop 24 bytes
+    → bytes ≡ header_of (field_at w16 0 bytes) (field_at w16 2 bytes) (field_at w16 4 bytes) (field_at w16 6 bytes) (field_at w64 8 bytes) (field_at w32 16 bytes) (field_at w32 20 bytes) ++ drop 24 bytes
 header_cut bytes fits long =
     at_16 0 bytes fits (omega arith)
-    ∙ ap (λ (v : List ℕ). to_le_bytes w16 (field w16 0 bytes) ++ v) (at_16 2 bytes fits (omega arith)
-    ∙ ap (λ (v : List ℕ). to_le_bytes w16 (field w16 2 bytes) ++ v) (at_16 4 bytes fits (omega arith)
-    ∙ ap (λ (v : List ℕ). to_le_bytes w16 (field w16 4 bytes) ++ v) (at_16 6 bytes fits (omega arith)
-    ∙ ap (λ (v : List ℕ). to_le_bytes w16 (field w16 6 bytes) ++ v) (at_64 8 bytes fits (omega arith)
-    ∙ ap (λ (v : List ℕ). to_le_bytes w64 (field w64 8 bytes) ++ v) (at_32 16 bytes fits (omega arith)
-    ∙ ap (λ (v : List ℕ). to_le_bytes w32 (field w32 16 bytes) ++ v) (at_32 20 bytes fits (omega arith)))))))
+    ∙ ap (λ (v : List ℕ). to_le_bytes w16 (field_at w16 0 bytes) ++ v) (at_16 2 bytes fits (omega arith)
+    ∙ ap (λ (v : List ℕ). to_le_bytes w16 (field_at w16 2 bytes) ++ v) (at_16 4 bytes fits (omega arith)
+    ∙ ap (λ (v : List ℕ). to_le_bytes w16 (field_at w16 4 bytes) ++ v) (at_16 6 bytes fits (omega arith)
+    ∙ ap (λ (v : List ℕ). to_le_bytes w16 (field_at w16 6 bytes) ++ v) (at_64 8 bytes fits (omega arith)
+    ∙ ap (λ (v : List ℕ). to_le_bytes w64 (field_at w64 8 bytes) ++ v) (at_32 16 bytes fits (omega arith)
+    ∙ ap (λ (v : List ℕ). to_le_bytes w32 (field_at w32 16 bytes) ++ v) (at_32 20 bytes fits (omega arith)))))))
 
 -- ---- the cases
 
@@ -166,13 +166,13 @@ pub record IsClean (bytes : List ℕ) : Type 0 where
   pub well : list_any is_malformed (raws_of bytes) ≡ false
   pub distinct : repeats (raw_ids (raws_of bytes)) ≡ false
 
-clean : (bytes : List ℕ) → refusal_of bytes ≡ None → IsClean bytes
+clean : (bytes : List ℕ) → bytes_refusal bytes ≡ None → IsClean bytes
 clean bytes none =
     let four : Option CallFault = cond (has_wrong (raws_of bytes)) (Some Inval) None in
     let three : Option CallFault = cond (is_long bytes) (Some Inval) four in
     let two : Option CallFault = cond (has_reserved bytes) (Some ProtoNoSupport) three in
     let one : Option CallFault = cond (is_misstated bytes) (Some Inval) two in
-    let a = passed (is_short bytes) Inval one none in
+    let a = passed (lacks_header bytes) Inval one none in
     let b = passed (is_misstated bytes) Inval two a.1 in
     let c = passed (has_reserved bytes) ProtoNoSupport three b.1 in
     let d = passed (is_long bytes) Inval four c.1 in
@@ -191,7 +191,7 @@ clean bytes none =
       distinct = e-parts.1;
     }
 
-spelled : (bytes : List ℕ) → IsBytes bytes → IsClean bytes → bytes ≡ call_bytes (call_of bytes)
+spelled : (bytes : List ℕ) → IsBytes bytes → IsClean bytes → bytes ≡ call_bytes (call_in bytes)
 spelled bytes fits is =
     let n : ℕ = attr_count bytes in
     let attrs : List Attr = map attr_of (raws_of bytes) in
@@ -199,14 +199,14 @@ spelled bytes fits is =
     let rows = rows_cut n (drop 24 bytes) (IsBytes-drop 24 bytes fits) (omega (arith, length-drop 24 bytes, is.stated, is.whole)) is.well in
     let end : drop (16 * n) (drop 24 bytes) ≡ [] = nil_from_length (drop (16 * n) (drop 24 bytes)) (omega (arith, length-drop (16 * n) (drop 24 bytes), length-drop 24 bytes, is.stated, is.whole)) in
     let back : drop 24 bytes ≡ flat_map attr_bytes attrs = rows ∙ ap (λ (v : List ℕ). flat_map attr_bytes attrs ++ v) end ∙ append-nil (flat_map attr_bytes attrs) in
-    let front : header_of (stated_length bytes) (field w16 2 bytes) (field w16 4 bytes) n (reserved1 bytes) (field w32 16 bytes) (reserved2 bytes) ≡ header_bytes (call_of bytes)
-    = ap (λ (k : ℕ). header_of k (field w16 2 bytes) (field w16 4 bytes) n (reserved1 bytes) (field w32 16 bytes) (reserved2 bytes)) is.stated
-    ∙ ap (λ (k : ℕ). header_of (24 + 16 * n) (field w16 2 bytes) (field w16 4 bytes) n k (field w32 16 bytes) (reserved2 bytes)) is.one
-    ∙ ap (λ (k : ℕ). header_of (24 + 16 * n) (field w16 2 bytes) (field w16 4 bytes) n 0 (field w32 16 bytes) k) is.two
-    ∙ ap (λ (k : ℕ). header_of (24 + 16 * k) (field w16 2 bytes) (field w16 4 bytes) k 0 (field w32 16 bytes) 0) count in
-    header_cut bytes fits is.long ∙ ap (λ (v : List ℕ). v ++ drop 24 bytes) front ∙ ap (λ (v : List ℕ). header_bytes (call_of bytes) ++ v) back
+    let front : header_of (stated_length bytes) (field_at w16 2 bytes) (field_at w16 4 bytes) n (reserved1 bytes) (field_at w32 16 bytes) (reserved2 bytes) ≡ header_bytes (call_in bytes)
+    = ap (λ (k : ℕ). header_of k (field_at w16 2 bytes) (field_at w16 4 bytes) n (reserved1 bytes) (field_at w32 16 bytes) (reserved2 bytes)) is.stated
+    ∙ ap (λ (k : ℕ). header_of (24 + 16 * n) (field_at w16 2 bytes) (field_at w16 4 bytes) n k (field_at w32 16 bytes) (reserved2 bytes)) is.one
+    ∙ ap (λ (k : ℕ). header_of (24 + 16 * n) (field_at w16 2 bytes) (field_at w16 4 bytes) n 0 (field_at w32 16 bytes) k) is.two
+    ∙ ap (λ (k : ℕ). header_of (24 + 16 * k) (field_at w16 2 bytes) (field_at w16 4 bytes) k 0 (field_at w32 16 bytes) 0) count in
+    header_cut bytes fits is.long ∙ ap (λ (v : List ℕ). v ++ drop 24 bytes) front ∙ ap (λ (v : List ℕ). header_bytes (call_in bytes) ++ v) back
 
-pub accepted_is_command : (bytes : List ℕ) → IsBytes bytes → refusal_of bytes ≡ None → IsCommand bytes (call_of bytes)
+pub accepted_is_command : (bytes : List ℕ) → IsBytes bytes → bytes_refusal bytes ≡ None → IsCommand bytes (call_in bytes)
 accepted_is_command bytes fits none =
     let is = clean bytes none in
     record {
@@ -216,6 +216,6 @@ accepted_is_command bytes fits none =
     }
 
 -- the same of what a function answered
-pub answer_is_command : (bytes : List ℕ) (r : Result Call CallFault) → IsBytes bytes → OnOk r (refusal_of bytes ≡ None) → IfOk r (λ call. call ≡ call_of bytes) → IfOk r (λ call. IsCommand bytes call)
+pub answer_is_command : (bytes : List ℕ) (r : Result Call CallFault) → IsBytes bytes → OnOk r (bytes_refusal bytes ≡ None) → IfOk r (λ call. call ≡ call_in bytes) → IfOk r (λ call. IsCommand bytes call)
 answer_is_command bytes (Ok call) fits none read = subst (λ (v : Call). IsCommand bytes v) (sym read) (accepted_is_command bytes fits none)
 answer_is_command bytes (Err fault) fits none read = tt

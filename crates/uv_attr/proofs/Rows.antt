@@ -5,7 +5,7 @@ use Rattle.std.specs.List.{list_any}
 use Rattle.std.specs.Int.{w16}
 use Rattle.std.proofs.lemmas.List.{append-nil}
 use Rattle.uv_attr.specs.declared.call.Attr.{Attr}
-use Rattle.uv_attr.specs.Fields.{field}
+use Rattle.uv_attr.specs.Fields.{field_at}
 use Rattle.uv_attr.specs.Command.{repeats}
 use Rattle.uv_attr.specs.Reading.{raw_of, raws, attr_of}
 use Rattle.uv_attr.specs.Refusal.{is_malformed, raw_ids}
@@ -33,23 +33,23 @@ malformed-more n i bytes others b cut lt well so_far =
     let later : Bool = list_any is_malformed (raws (n - (i + 1)) others) in
     sym (ap (list_any is_malformed) (raws-more n i bytes others cut lt) ∙ ap (λ v. v || later) well) ∙ so_far
 
-pub stands-more : (n i id : ℕ) (bytes others : List ℕ) (b : Bool) → others ≡ drop 16 bytes → i < n → (field w16 0 bytes == id) ≡ false → list_any (λ other. other == id) (raw_ids (raws (n - i) bytes)) ≡ b → list_any (λ other. other == id) (raw_ids (raws (n - (i + 1)) others)) ≡ b
+pub stands-more : (n i id : ℕ) (bytes others : List ℕ) (b : Bool) → others ≡ drop 16 bytes → i < n → (field_at w16 0 bytes == id) ≡ false → list_any (λ other. other == id) (raw_ids (raws (n - i) bytes)) ≡ b → list_any (λ other. other == id) (raw_ids (raws (n - (i + 1)) others)) ≡ b
 stands-more n i id bytes others b cut lt other so_far =
     let later : Bool = list_any (λ other. other == id) (raw_ids (raws (n - (i + 1)) others)) in
     sym (ap (λ rs. list_any (λ other. other == id) (raw_ids rs)) (raws-more n i bytes others cut lt) ∙ ap (λ v. v || later) other) ∙ so_far
 
 -- an id stands twice among those that are left, if the first stands among the others or one of these stands twice
-pub repeats-step : (n i id : ℕ) (bytes others : List ℕ) → others ≡ drop 16 bytes → i < n → id ≡ field w16 0 bytes
+pub repeats-step : (n i id : ℕ) (bytes others : List ℕ) → others ≡ drop 16 bytes → i < n → id ≡ field_at w16 0 bytes
     → repeats (raw_ids (raws (n - i) bytes)) ≡ (list_any (λ other. other == id) (raw_ids (raws (n - (i + 1)) others)) || repeats (raw_ids (raws (n - (i + 1)) others)))
 repeats-step n i id bytes others cut lt e =
     let ids : List ℕ = raw_ids (raws (n - (i + 1)) others) in
     ap (λ rs. repeats (raw_ids rs)) (raws-more n i bytes others cut lt) ∙ ap (λ k. list_any (λ other. other == k) ids || repeats ids) (sym e)
 
-pub repeats-found : (n i id : ℕ) (bytes others : List ℕ) (b : Bool) → others ≡ drop 16 bytes → i < n → id ≡ field w16 0 bytes → list_any (λ other. other == id) (raw_ids (raws (n - (i + 1)) others)) ≡ true → repeats (raw_ids (raws (n - i) bytes)) ≡ b → true ≡ b
+pub repeats-found : (n i id : ℕ) (bytes others : List ℕ) (b : Bool) → others ≡ drop 16 bytes → i < n → id ≡ field_at w16 0 bytes → list_any (λ other. other == id) (raw_ids (raws (n - (i + 1)) others)) ≡ true → repeats (raw_ids (raws (n - i) bytes)) ≡ b → true ≡ b
 repeats-found n i id bytes others b cut lt e found so_far =
     sym (repeats-step n i id bytes others cut lt e ∙ ap (λ v. v || repeats (raw_ids (raws (n - (i + 1)) others))) found) ∙ so_far
 
-pub repeats-more : (n i id : ℕ) (bytes others : List ℕ) (b : Bool) → others ≡ drop 16 bytes → i < n → id ≡ field w16 0 bytes → list_any (λ other. other == id) (raw_ids (raws (n - (i + 1)) others)) ≡ false → repeats (raw_ids (raws (n - i) bytes)) ≡ b → repeats (raw_ids (raws (n - (i + 1)) others)) ≡ b
+pub repeats-more : (n i id : ℕ) (bytes others : List ℕ) (b : Bool) → others ≡ drop 16 bytes → i < n → id ≡ field_at w16 0 bytes → list_any (λ other. other == id) (raw_ids (raws (n - (i + 1)) others)) ≡ false → repeats (raw_ids (raws (n - i) bytes)) ≡ b → repeats (raw_ids (raws (n - (i + 1)) others)) ≡ b
 repeats-more n i id bytes others b cut lt e other so_far =
     sym (repeats-step n i id bytes others cut lt e ∙ ap (λ v. v || repeats (raw_ids (raws (n - (i + 1)) others))) other) ∙ so_far
 
@@ -66,7 +66,7 @@ pub malformed-found : (n i : ℕ) (bytes : List ℕ) (b : Bool) → i < n → is
 malformed-found n i bytes b lt ill so_far =
     sym (ap (list_any is_malformed) (raws-more n i bytes (drop 16 bytes) refl lt) ∙ ap (λ v. v || list_any is_malformed (raws (n - (i + 1)) (drop 16 bytes))) ill) ∙ so_far
 
-pub stands-found : (n i id : ℕ) (bytes : List ℕ) (b : Bool) → i < n → (field w16 0 bytes == id) ≡ true → list_any (λ other. other == id) (raw_ids (raws (n - i) bytes)) ≡ b → true ≡ b
+pub stands-found : (n i id : ℕ) (bytes : List ℕ) (b : Bool) → i < n → (field_at w16 0 bytes == id) ≡ true → list_any (λ other. other == id) (raw_ids (raws (n - i) bytes)) ≡ b → true ≡ b
 stands-found n i id bytes b lt same so_far =
     let later : Bool = list_any (λ other. other == id) (raw_ids (raws (n - (i + 1)) (drop 16 bytes))) in
     sym (ap (λ rs. list_any (λ other. other == id) (raw_ids rs)) (raws-more n i bytes (drop 16 bytes) refl lt) ∙ ap (λ v. v || later) same) ∙ so_far

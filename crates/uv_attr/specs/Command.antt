@@ -1,4 +1,4 @@
--- The grammar of command bytes: what bytes a call has. Field by field the header and the attributes of
+-- The grammar of command bytes: what bytes a call has. Field by field_at the header and the attributes of
 -- `rdma/rdma_user_ioctl_cmds.h`, `struct ib_uverbs_ioctl_hdr` and `struct ib_uverbs_attr`.
 use Rattle.std.specs.Prelude.{◌≡◌, ℕ, ◌+◌, ◌*◌, ◌≤◌, ◌<◌, ◌^◌, Bool, false, ◌||◌, ◌==◌, List, [], ◌∷◌, ◌++◌, length, map, if◌then◌else◌}
 use Rattle.std.specs.List.{list_any, flat_map, AllByRecursion}
@@ -8,12 +8,12 @@ use Rattle.uv_attr.specs.declared.call.Call.{Call}
 use Rattle.uv_attr.specs.declared.call.TheConstants.{ATTR_BYTES, HEADER_BYTES, MOST_ATTRS}
 
 -- bit 0 says that the method has to know the attribute, bit 1 that the kernel writes it
-abbrev pub flags_of : Attr → ℕ
-flags_of a = (if a.mandatory then 1 else 0) + (if a.output then 2 else 0)
+abbrev pub attr_flags : Attr → ℕ
+attr_flags a = (if a.mandatory then 1 else 0) + (if a.output then 2 else 0)
 
 -- attr_id, len, flags, attr_data and data
 abbrev pub attr_bytes : Attr → List ℕ
-attr_bytes a = to_le_bytes w16 a.id ++ to_le_bytes w16 a.len ++ to_le_bytes w16 (flags_of a) ++ to_le_bytes w16 0 ++ to_le_bytes w64 a.value
+attr_bytes a = to_le_bytes w16 a.id ++ to_le_bytes w16 a.len ++ to_le_bytes w16 (attr_flags a) ++ to_le_bytes w16 0 ++ to_le_bytes w64 a.value
 
 -- length, object_id, method_id, num_attrs, reserved1, driver_id and reserved2
 abbrev pub header_bytes : Call → List ℕ
@@ -31,16 +31,16 @@ repeats [] = false
 repeats (id ∷ ids) = list_any (λ other. other == id) ids || repeats ids
 
 -- the ids of a call's attributes, in their order
-abbrev pub ids_of : List Attr → List ℕ
-ids_of attrs = map (λ a. a.id) attrs
+abbrev pub attr_ids : List Attr → List ℕ
+attr_ids attrs = map (λ a. a.id) attrs
 
 -- the bytes are that call's, and it has no more attributes than a command may, each with an id of its own
 pub record IsCommand (bytes : List ℕ) (call : Call) : Type 0 where
   pub spelled : bytes ≡ call_bytes call
   pub few : length call.attrs ≤ MOST_ATTRS
-  pub distinct : repeats (ids_of call.attrs) ≡ false
+  pub distinct : repeats (attr_ids call.attrs) ≡ false
 
--- each number is one that its field holds
+-- each number is one that its field_at holds
 pub record AttrFits (a : Attr) : Type 0 where
   pub id : a.id < 2 ^ 16
   pub len : a.len < 2 ^ 16

@@ -3,5 +3,5 @@ use Rattle.std.specs.Prelude.{ℕ, List, drop}
 use Rattle.std.specs.Int.{Width, from_le_bytes}
 
 -- the number of that width whose first byte stands there
-unfoldable pub field : Width → ℕ → List ℕ → ℕ
-field w at bytes = from_le_bytes w (drop at bytes)
+unfoldable pub field_at : Width → ℕ → List ℕ → ℕ
+field_at w at bytes = from_le_bytes w (drop at bytes)

@@ -8,14 +8,14 @@ use Rattle.uv_attr.specs.Command.{repeats}
 use Rattle.uv_attr.specs.Reading.{stated_length, attr_count, reserved1, reserved2, RawAttr, raws_of}
 
 -- 1. there are fewer bytes than a header has
-abbrev pub is_short : List ℕ → Bool
-is_short bytes = nat_lt (length bytes) HEADER_BYTES
+abbrev pub lacks_header : List ℕ → Bool
+lacks_header bytes = nat_lt (length bytes) HEADER_BYTES
 
 -- 2. the length isn't that of a header with so many attributes, or not that of the bytes
 abbrev pub is_misstated : List ℕ → Bool
 is_misstated bytes = not (stated_length bytes == HEADER_BYTES + ATTR_BYTES * attr_count bytes) || not (stated_length bytes == length bytes)
 
--- 3. a reserved field of the header isn't 0
+-- 3. a reserved field_at of the header isn't 0
 abbrev pub has_reserved : List ℕ → Bool
 has_reserved bytes = not (reserved1 bytes == 0) || not (reserved2 bytes == 0)
 
@@ -33,9 +33,9 @@ raw_ids rs = map (λ r. r.id) rs
 abbrev pub has_wrong : List RawAttr → Bool
 has_wrong rs = list_any is_malformed rs || repeats (raw_ids rs)
 
-abbrev pub refusal_of : List ℕ → Option CallFault
-refusal_of bytes =
-    if is_short bytes then Some Inval
+abbrev pub bytes_refusal : List ℕ → Option CallFault
+bytes_refusal bytes =
+    if lacks_header bytes then Some Inval
     else (if is_misstated bytes then Some Inval
     else (if has_reserved bytes then Some ProtoNoSupport
     else (if is_long bytes then Some Inval

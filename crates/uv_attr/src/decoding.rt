@@ -5,8 +5,8 @@ ghost use Rattle.uv_attr.specs.declared.call.TheConstants.{ATTR_BYTES, HEADER_BY
 ghost use Rattle.uv_attr.specs.declared.fault.CallFault.{CallFault};
 ghost use Rattle.uv_attr.specs.declared.fault.CallFault.TheVariants.{NoMemory};
 ghost use Rattle.uv_attr.specs.Command.{IsCommand};
-ghost use Rattle.uv_attr.specs.Reading.{attr_count, raw_of, raws, attr_of, call_of};
-ghost use Rattle.uv_attr.specs.Refusal.{refusal_of};
+ghost use Rattle.uv_attr.specs.Reading.{attr_count, raw_of, raws, attr_of, call_in};
+ghost use Rattle.uv_attr.specs.Refusal.{bytes_refusal};
 
 use crate::call::{ATTR_BYTES, Attr, Call, HEADER_BYTES};
 use crate::fault::CallFault;
@@ -45,7 +45,7 @@ fn attrs_at(alloc: Global, count: usize, bytes: &[u8]) -> Result<List<Attr>, All
 
 fn call_at(alloc: Global, bytes: &[u8]) -> Result<Call, AllocError>
     requires { HEADER_BYTES + ATTR_BYTES * attr_count bytes.now ≤ length bytes.now }
-    ensures { IfOk result (λ call. call ≡ call_of bytes.now) }
+    ensures { IfOk result (λ call. call ≡ call_in bytes.now) }
 {
     let count = u16_at(bytes, 6) as usize;
     let (_, rows) = bytes.split_at(HEADER_BYTES);
@@ -59,11 +59,11 @@ fn call_at(alloc: Global, bytes: &[u8]) -> Result<Call, AllocError>
 }
 
 fn read_call(alloc: Global, bytes: &[u8]) -> Result<Call, CallFault>
-    ensures refused { (fault : CallFault) → refusal_of bytes.now ≡ Some fault → result ≡ Err fault }
-    ensures memory { refusal_of bytes.now ≡ None → IfErr result (λ fault. fault ≡ NoMemory) }
-    ensures taken { IfErr result (λ fault. fault ≡ NoMemory → refusal_of bytes.now ≡ None) }
-    ensures accepted { OnOk result (refusal_of bytes.now ≡ None) }
-    ensures read { IfOk result (λ call. call ≡ call_of bytes.now) }
+    ensures refused { (fault : CallFault) → bytes_refusal bytes.now ≡ Some fault → result ≡ Err fault }
+    ensures memory { bytes_refusal bytes.now ≡ None → IfErr result (λ fault. fault ≡ NoMemory) }
+    ensures taken { IfErr result (λ fault. fault ≡ NoMemory → bytes_refusal bytes.now ≡ None) }
+    ensures accepted { OnOk result (bytes_refusal bytes.now ≡ None) }
+    ensures read { IfOk result (λ call. call ≡ call_in bytes.now) }
 {
     if let Some(fault) = refusal(bytes) {
         return Err(fault);
@@ -78,10 +78,10 @@ fn read_call(alloc: Global, bytes: &[u8]) -> Result<Call, CallFault>
 ///
 /// The header is that of `ib_uverbs_ioctl` in Linux's `uverbs_ioctl.c`; the order is this project's own.
 pub fn decode_call(alloc: Global, bytes: &[u8]) -> Result<Call, CallFault>
-    ensures refused { (fault : CallFault) → refusal_of bytes.now ≡ Some fault → result ≡ Err fault }
-    ensures memory { refusal_of bytes.now ≡ None → IfErr result (λ fault. fault ≡ NoMemory) }
-    ensures taken { IfErr result (λ fault. fault ≡ NoMemory → refusal_of bytes.now ≡ None) }
-    ensures read { IfOk result (λ call. call ≡ call_of bytes.now) }
+    ensures refused { (fault : CallFault) → bytes_refusal bytes.now ≡ Some fault → result ≡ Err fault }
+    ensures memory { bytes_refusal bytes.now ≡ None → IfErr result (λ fault. fault ≡ NoMemory) }
+    ensures taken { IfErr result (λ fault. fault ≡ NoMemory → bytes_refusal bytes.now ≡ None) }
+    ensures read { IfOk result (λ call. call ≡ call_in bytes.now) }
     ensures command { IfOk result (λ call. IsCommand bytes.now call) }
 {
     read_call(alloc, bytes)

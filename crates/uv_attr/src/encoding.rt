@@ -3,7 +3,7 @@
 ghost use Rattle.std.specs.Prelude.{◌≡◌, ◌≤◌, ◌++◌, ◌==◌, false, length, IfOk, OnOk};
 ghost use Rattle.std.specs.List.{list_any};
 ghost use Rattle.uv_attr.specs.declared.call.TheConstants.{MOST_ATTRS};
-ghost use Rattle.uv_attr.specs.Command.{flags_of, attr_bytes, header_bytes, call_bytes, repeats, ids_of};
+ghost use Rattle.uv_attr.specs.Command.{attr_flags, attr_bytes, header_bytes, call_bytes, repeats, attr_ids};
 
 use crate::call::{ATTR_BYTES, Attr, Call, HEADER_BYTES};
 use crate::fields::{put_u16, put_u32, put_u64};
@@ -11,7 +11,7 @@ use std::alloc::{AllocError, Global};
 use uv_num::Bytes;
 
 fn flags_of(attr: &Attr) -> u16
-    ensures { result ≡ flags_of attr.now }
+    ensures { result ≡ attr_flags attr.now }
 {
     let mandatory = if attr.mandatory { 1 } else { 0 };
     let output = if attr.output { 2 } else { 0 };
@@ -47,7 +47,7 @@ fn put_header(out: &mut Bytes, call: &Call) -> Result<(), AllocError>
 /// The bytes of a call of at most `MOST_ATTRS` attributes, each with an id of its own.
 pub fn encode_call(alloc: Global, call: &Call) -> Result<Bytes, AllocError>
     requires few { length call.now.attrs ≤ MOST_ATTRS }
-    requires distinct { repeats (ids_of call.now.attrs) ≡ false }
+    requires distinct { repeats (attr_ids call.now.attrs) ≡ false }
     ensures { IfOk result (λ out. out.bytes ≡ call_bytes call.now) }
 {
     let mut out = Bytes::with_room(alloc, HEADER_BYTES + ATTR_BYTES * call.attrs.len())?;
@@ -59,14 +59,14 @@ pub fn encode_call(alloc: Global, call: &Call) -> Result<Bytes, AllocError>
 }
 
 fn has_id(attrs: &[Attr], id: u16) -> bool
-    ensures { result ≡ list_any (λ other. other == id) (ids_of attrs.now) }
+    ensures { result ≡ list_any (λ other. other == id) (attr_ids attrs.now) }
 {
     attrs.iter().map(|attr| attr.id).any(|other| other == id)
 }
 
 /// Whether two attributes have one id. A call of which this is true has no bytes.
 pub fn repeats_id(attrs: &[Attr]) -> bool
-    ensures { result ≡ repeats (ids_of attrs.now) }
+    ensures { result ≡ repeats (attr_ids attrs.now) }
 {
     let mut rest = attrs;
     while let [first, others @ ..] = rest {

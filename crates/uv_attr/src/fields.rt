@@ -2,35 +2,35 @@
 
 ghost use Rattle.std.specs.Prelude.{◌≡◌, ◌+◌, ◌≤◌, ◌++◌, length, OnOk};
 ghost use Rattle.std.specs.Int.{w16, w32, w64, to_le_bytes};
-ghost use Rattle.uv_attr.specs.Fields.{field};
+ghost use Rattle.uv_attr.specs.Fields.{field_at};
 
 use byteorder::{ByteOrder, LittleEndian};
 use std::alloc::AllocError;
 use uv_num::Bytes;
 
 /// The number of 2 bytes that begins at a place.
-#[tactic(auto, unfolding(crate::specs::Fields::field))]
+#[tactic(auto, unfolding(crate::specs::Fields::field_at))]
 pub fn u16_at(bytes: &[u8], at: usize) -> u16
     requires { at + 2 ≤ length bytes.now }
-    ensures { result ≡ field w16 at bytes.now }
+    ensures { result ≡ field_at w16 at bytes.now }
 {
     LittleEndian::read_u16(&bytes[at..])
 }
 
 /// The number of 4 bytes that begins at a place.
-#[tactic(auto, unfolding(crate::specs::Fields::field))]
+#[tactic(auto, unfolding(crate::specs::Fields::field_at))]
 pub fn u32_at(bytes: &[u8], at: usize) -> u32
     requires { at + 4 ≤ length bytes.now }
-    ensures { result ≡ field w32 at bytes.now }
+    ensures { result ≡ field_at w32 at bytes.now }
 {
     LittleEndian::read_u32(&bytes[at..])
 }
 
 /// The number of 8 bytes that begins at a place.
-#[tactic(auto, unfolding(crate::specs::Fields::field))]
+#[tactic(auto, unfolding(crate::specs::Fields::field_at))]
 pub fn u64_at(bytes: &[u8], at: usize) -> u64
     requires { at + 8 ≤ length bytes.now }
-    ensures { result ≡ field w64 at bytes.now }
+    ensures { result ≡ field_at w64 at bytes.now }
 {
     LittleEndian::read_u64(&bytes[at..])
 }

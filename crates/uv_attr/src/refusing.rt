@@ -6,7 +6,7 @@ ghost use Rattle.uv_attr.specs.declared.call.TheConstants.{ATTR_BYTES, HEADER_BY
 ghost use Rattle.uv_attr.specs.declared.fault.CallFault.TheVariants.{NoMemory};
 ghost use Rattle.uv_attr.specs.Command.{repeats};
 ghost use Rattle.uv_attr.specs.Reading.{raw_of, raws, raws_of};
-ghost use Rattle.uv_attr.specs.Refusal.{is_misstated, has_reserved, is_malformed, raw_ids, has_wrong, refusal_of};
+ghost use Rattle.uv_attr.specs.Refusal.{is_misstated, has_reserved, is_malformed, raw_ids, has_wrong, bytes_refusal};
 
 use crate::call::{ATTR_BYTES, HEADER_BYTES, KNOWN_FLAGS, MOST_ATTRS};
 use crate::fault::CallFault;
@@ -90,7 +90,7 @@ fn has_wrong(count: usize, bytes: &[u8]) -> bool
 
 /// Why the bytes are refused, if they are.
 pub fn refusal(bytes: &[u8]) -> Option<CallFault>
-    ensures refused { result ≡ refusal_of bytes.now }
+    ensures refused { result ≡ bytes_refusal bytes.now }
     ensures named { IfSome result (λ fault. fault ≢ NoMemory) }
 {
     if bytes.len() < HEADER_BYTES {

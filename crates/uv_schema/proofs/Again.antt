@@ -15,7 +15,7 @@ use Rattle.uv_schema.specs.declared.method.Wanted.{Wanted}
 use Rattle.uv_schema.specs.declared.method.Method.TheVariants as method
 use Rattle.uv_schema.specs.Methods.{wanted_of}
 use Rattle.uv_schema.specs.Values.{value_of, attr_in, given_in, modified_in}
-use Rattle.uv_schema.specs.Refusals.{has_wanted, first_refusal}
+use Rattle.uv_schema.specs.Refusals.{has_wanted, attrs_refusal}
 use Rattle.uv_schema.specs.Reading.{unless}
 use Rattle.uv_schema.specs.Calls.{HandlesFit, ReadsBack, accepted, attr_for, attrs_for, handles_of, modified_by}
 
@@ -77,13 +77,13 @@ all_wanted wanted n [] = true
 all_wanted wanted n (value ∷ values) = has_wanted wanted n && all_wanted wanted (n + 1) values
 
 -- then none is refused
-none_refused : (wanted : List Wanted) (n : ℕ) (values : List (Option ℕ)) → all_wanted wanted n values ≡ true → first_refusal wanted (attrs_for n values) ≡ None
+none_refused : (wanted : List Wanted) (n : ℕ) (values : List (Option ℕ)) → all_wanted wanted n values ≡ true → attrs_refusal wanted (attrs_for n values) ≡ None
 none_refused wanted n [] all = refl
 none_refused wanted n (None ∷ values) all =
     none_refused wanted (n + 1) values (and_parts (has_wanted wanted n) (all_wanted wanted (n + 1) values) all).1
 none_refused wanted n (Some value ∷ values) all =
     let parts = and_parts (has_wanted wanted n) (all_wanted wanted (n + 1) values) all in
-    ap (λ b. option_or (if b then None else Some ProtoNoSupport) (first_refusal wanted (attrs_for (n + 1) values))) parts.0
+    ap (λ b. option_or (if b then None else Some ProtoNoSupport) (attrs_refusal wanted (attrs_for (n + 1) values))) parts.0
     ∙ none_refused wanted (n + 1) values parts.1
 
 module _ (qp to : ℕ) (attrs : QpAttrs) where
@@ -107,7 +107,7 @@ module _ (qp to : ℕ) (attrs : QpAttrs) where
         dqpn = given-at 14 3 (modified_by attrs) i;
       }
 
-  not_refused : first_refusal (wanted_of method.ModifyQp) (attrs_for 3 (modified_by attrs)) ≡ None
+  not_refused : attrs_refusal (wanted_of method.ModifyQp) (attrs_for 3 (modified_by attrs)) ≡ None
   not_refused = none_refused (wanted_of method.ModifyQp) 3 (modified_by attrs) refl
 
   modify_reads_back : HandlesFit (ModifyQp qp to attrs) → ReadsBack (ModifyQp qp to attrs)

@@ -82,8 +82,8 @@ abbrev pub call_by : Row → List (Option ℕ) → Call
 call_by row values = record { object = row.object; method = row.number; driver = 0; attrs = attrs_for 1 values }
 
 -- the call that a request makes
-abbrev pub call_of : Request → Call
-call_of request = call_by (row_of (method_for request)) (values_of request)
+abbrev pub call_for : Request → Call
+call_for request = call_by (row_of (method_for request)) (values_of request)
 
 abbrev pub optional : Option ℕ → List ℕ
 optional None = []
@@ -122,4 +122,4 @@ accepted request = if is_in_range request then Ok request else Err Inval
 
 -- the call that a request makes is read as that request
 abbrev pub ReadsBack : Request → Type 0
-ReadsBack request = request_of (call_of request) ≡ accepted request
+ReadsBack request = request_of (call_for request) ≡ accepted request

@@ -6,8 +6,8 @@ use Rattle.uv_num.specs.declared.request.Request.{Request}
 use Rattle.uv_attr.specs.declared.call.Call.{Call}
 use Rattle.uv_attr.specs.declared.fault.CallFault.{CallFault}
 use Rattle.uv_attr.specs.declared.fault.CallFault.TheVariants as fault
-use Rattle.uv_attr.specs.Reading.{call_of}
-use Rattle.uv_attr.specs.Refusal.{refusal_of}
+use Rattle.uv_attr.specs.Reading.{call_in}
+use Rattle.uv_attr.specs.Refusal.{bytes_refusal}
 use Rattle.uv_schema.specs.Reading.{request_of}
 
 -- the errno of each reason for which bytes are no call
@@ -22,4 +22,4 @@ answer_to (Some refused) call = Err (fault_errno refused)
 answer_to None call = request_of call
 
 abbrev pub command_of : List ℕ → Result Request Errno
-command_of bytes = answer_to (refusal_of bytes) (call_of bytes)
+command_of bytes = answer_to (bytes_refusal bytes) (call_in bytes)

@@ -7,7 +7,7 @@ use Rattle.uv_attr.specs.declared.call.Attr.{Attr}
 use Rattle.uv_attr.specs.declared.call.Call.{Call}
 use Rattle.uv_schema.specs.declared.method.Method.{Method}
 use Rattle.uv_schema.specs.Methods.{method_of}
-use Rattle.uv_schema.specs.Refusals.{refusal_of}
+use Rattle.uv_schema.specs.Refusals.{method_refusal}
 use Rattle.uv_schema.specs.Values.{request_in}
 
 -- the request, unless it is refused
@@ -15,9 +15,9 @@ abbrev pub unless : Option Errno → Request → Result Request Errno
 unless None request = Ok request
 unless (Some errno) request = Err errno
 
-abbrev pub read_by : Option Method → List Attr → Result Request Errno
-read_by None attrs = Err ProtoNoSupport
-read_by (Some method) attrs = unless (refusal_of method attrs) (request_in method attrs)
+abbrev pub asked_for : Option Method → List Attr → Result Request Errno
+asked_for None attrs = Err ProtoNoSupport
+asked_for (Some method) attrs = unless (method_refusal method attrs) (request_in method attrs)
 
 abbrev pub request_of : Call → Result Request Errno
-request_of call = read_by (method_of call.object call.method) call.attrs
+request_of call = asked_for (method_of call.object call.method) call.attrs

@@ -29,9 +29,9 @@ attr_refusal wanted a =
     then (if a.len == VALUE_BYTES then None else Some Inval)
     else (if a.mandatory then Some ProtoNoSupport else None)
 
-abbrev pub first_refusal : List Wanted → List Attr → Option Errno
-first_refusal wanted [] = None
-first_refusal wanted (a ∷ attrs) = option_or (attr_refusal wanted a) (first_refusal wanted attrs)
+abbrev pub attrs_refusal : List Wanted → List Attr → Option Errno
+attrs_refusal wanted [] = None
+attrs_refusal wanted (a ∷ attrs) = option_or (attr_refusal wanted a) (attrs_refusal wanted attrs)
 
 -- 3. an attribute that has to be given is missing: EINVAL
 abbrev pub is_missing : List Attr → Wanted → Bool
@@ -48,9 +48,9 @@ abbrev pub has_wide : Method → List Attr → Bool
 has_wide method attrs = list_any (is_wide attrs) (wanted_of method)
 
 -- why a call of a method is refused, if it is
-abbrev pub refusal_of : Method → List Attr → Option Errno
-refusal_of method attrs =
-    option_or (first_refusal (wanted_of method) attrs)
+abbrev pub method_refusal : Method → List Attr → Option Errno
+method_refusal method attrs =
+    option_or (attrs_refusal (wanted_of method) attrs)
     (if has_missing method attrs then Some Inval
     else (if has_wide method attrs then Some Inval
     else (if is_in_range (request_in method attrs) then None

@@ -9,12 +9,12 @@ use Rattle.uv_schema.specs.declared.ids.TheConstants.{AH_DEVICE, BIND_ACCESS, BI
 use Rattle.uv_schema.specs.declared.method.Method.{Method}
 use Rattle.uv_schema.specs.declared.method.Method.TheVariants as method
 
-abbrev pub has_id : ℕ → Attr → Bool
-has_id id a = a.id == id
+abbrev pub has_attr_id : ℕ → Attr → Bool
+has_attr_id id a = a.id == id
 
 -- the attribute of a number, if it is given
 abbrev pub attr_in : List Attr → ℕ → Option Attr
-attr_in attrs id = find (has_id id) attrs
+attr_in attrs id = find (has_attr_id id) attrs
 
 abbrev pub value_of : Attr → ℕ
 value_of a = a.value

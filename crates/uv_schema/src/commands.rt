@@ -2,7 +2,7 @@
 
 ghost use Rattle.std.specs.Prelude.{◌≡◌, IfOk, Ok, Some};
 ghost use Rattle.uv_attr.specs.declared.fault.CallFault.{CallFault};
-ghost use Rattle.uv_attr.specs.Refusal.{refusal_of};
+ghost use Rattle.uv_attr.specs.Refusal.{bytes_refusal};
 ghost use Rattle.uv_schema.specs.Commands.{command_of};
 
 use crate::reading::request_of;
@@ -17,7 +17,7 @@ mod tests;
 /// `uv_attr::decode_call`, and then as a call, by `request_of`. Only where memory runs out there is no answer; bytes that are refused
 /// as bytes take none, and are always answered.
 pub fn command(alloc: Global, bytes: &[u8]) -> Result<Result<Request, Errno>, AllocError>
-    ensures refused { (fault : CallFault) → refusal_of bytes.now ≡ Some fault → result ≡ Ok (command_of bytes.now) }
+    ensures refused { (fault : CallFault) → bytes_refusal bytes.now ≡ Some fault → result ≡ Ok (command_of bytes.now) }
     ensures answer { IfOk result (λ answer. answer ≡ command_of bytes.now) }
 {
     match decode_call(alloc, bytes) {

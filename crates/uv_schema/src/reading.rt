@@ -2,7 +2,7 @@
 
 ghost use Rattle.std.specs.Prelude.{◌≡◌};
 ghost use Rattle.uv_schema.specs.Reading.{request_of, unless};
-ghost use Rattle.uv_schema.specs.Refusals.{refusal_of};
+ghost use Rattle.uv_schema.specs.Refusals.{method_refusal};
 ghost use Rattle.uv_schema.specs.Values.{request_in};
 
 use crate::building::request_in;
@@ -34,7 +34,7 @@ pub fn request_of(call: &Call) -> Result<Request, Errno>
 }
 
 fn read(method: Method, attrs: &[Attr]) -> Result<Request, Errno>
-    ensures { result ≡ unless (refusal_of method attrs.now) (request_in method attrs.now) }
+    ensures { result ≡ unless (method_refusal method attrs.now) (request_in method attrs.now) }
 {
     if let Some(errno) = first_refusal(method.wanted(), attrs) {
         return Err(errno);

@@ -1,7 +1,7 @@
 //! Why a call of a method is refused. None of it takes memory.
 
 ghost use Rattle.std.specs.Prelude.{◌≡◌};
-ghost use Rattle.uv_schema.specs.Refusals.{attr_refusal, first_refusal, has_missing, has_wanted, has_wide, is_missing, is_wide};
+ghost use Rattle.uv_schema.specs.Refusals.{attr_refusal, attrs_refusal, has_missing, has_wanted, has_wide, is_missing, is_wide};
 
 use crate::ids::VALUE_BYTES;
 use crate::method::{Method, Wanted};
@@ -33,7 +33,7 @@ fn attr_refusal(wanted: &[Wanted], attr: Attr) -> Option<Errno>
 
 /// What the first attribute that is refused is refused with.
 pub(crate) fn first_refusal(wanted: &[Wanted], attrs: &[Attr]) -> Option<Errno>
-    ensures { result ≡ first_refusal wanted.now attrs.now }
+    ensures { result ≡ attrs_refusal wanted.now attrs.now }
 {
     for attr in attrs {
         if let Some(errno) = attr_refusal(wanted, *attr) {

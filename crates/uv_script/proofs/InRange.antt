@@ -10,9 +10,9 @@ use Rattle.uv_script.specs.Built.{is_built}
 use Rattle.uv_script.specs.Lines.{text_of, is_plain_text}
 use Rattle.uv_script.specs.Words.{words_of, only_of}
 use Rattle.uv_script.specs.Names.{Look}
-use Rattle.uv_script.specs.Places.{numbered, as_client, as_file, as_device, client_of, file_of, device_of}
+use Rattle.uv_script.specs.Places.{numbered, as_client, as_file, as_device, client_word, file_word, device_word}
 use Rattle.uv_script.specs.Ranges.{IsCaller, HasRanges, IsInRange}
-use Rattle.uv_script.specs.Reading.{Reading, Outside, Nothing, Says, Declares, reading_of, text_reading, is_remark, words_reading, with_client, behind_client, with_file, behind_file, with_verb, verb_of, behind_verb, says_open, says_dealloc_pd, says_command, says_raw, create, named, is_free, device_operand, handle_operand, bytes_operand}
+use Rattle.uv_script.specs.Reading.{Reading, Outside, Nothing, Says, Declares, reading_of, text_reading, is_remark, words_reading, given_client, behind_client, given_file, behind_file, given_verb, verb_of, behind_verb, says_open, says_dealloc_pd, says_command, says_raw, create, declaring, is_undeclared, device_operand, handle_operand, bytes_operand}
 use Rattle.uv_script.specs.Script.{reading_at, lines_at}
 use Rattle.uv_script.specs.declared.form.Form.{Form}
 use Rattle.uv_script.specs.declared.form.Form.TheVariants.{AllocPd, Raw}
@@ -53,29 +53,29 @@ as_device-range n c e =
     let parts : (nat_lt n 2 ≡ true) × (n ≡ c) = chosen_first (nat_lt n 2) n c e in
     omega (arith, ltb-true n 2 parts.0, parts.1)
 
-client_of-range : (word : List ℕ) (c : ℕ) → client_of word ≡ Some c → (1 ≤ c) × (c ≤ 8)
+client_of-range : (word : List ℕ) (c : ℕ) → client_word word ≡ Some c → (1 ≤ c) × (c ≤ 8)
 client_of-range word c e = let n : (a : ℕ) × (as_client a ≡ Some c) = and_then-some as_client (numbered 99 word) c e in as_client-range n.0 c n.1
 
-file_of-range : (word : List ℕ) (c : ℕ) → file_of word ≡ Some c → c < 16
+file_of-range : (word : List ℕ) (c : ℕ) → file_word word ≡ Some c → c < 16
 file_of-range word c e = let n : (a : ℕ) × (as_file a ≡ Some c) = and_then-some as_file (numbered 102 word) c e in as_file-range n.0 c n.1
 
-device_of-range : (word : List ℕ) (c : ℕ) → device_of word ≡ Some c → c < 2
+device_of-range : (word : List ℕ) (c : ℕ) → device_word word ≡ Some c → c < 2
 device_of-range word c e = let n : (a : ℕ) × (as_device a ≡ Some c) = and_then-some as_device (numbered 100 word) c e in as_device-range n.0 c n.1
 
 device_operand-range : (words : List (List ℕ)) (c : ℕ) → device_operand words ≡ Some c → c < 2
-device_operand-range words c e = let w : (word : List ℕ) × (device_of word ≡ Some c) = and_then-some device_of (only_of words) c e in device_of-range w.0 c w.1
+device_operand-range words c e = let w : (word : List ℕ) × (device_word word ≡ Some c) = and_then-some device_word (only_of words) c e in device_of-range w.0 c w.1
 
 choice-range : (b : Bool) (x y : Reading) → IsReadInRange x → IsReadInRange y → IsReadInRange (cond b x y)
 choice-range true x y in_x in_y = in_x
 choice-range false x y in_x in_y = in_y
 
-named-range : (look : Look) (form : Form) (name : Option (List ℕ)) → HasRanges form → IsReadInRange (named look form name)
+named-range : (look : Look) (form : Form) (name : Option (List ℕ)) → HasRanges form → IsReadInRange (declaring look form name)
 named-range look form None ranges = tt
-named-range look form (Some name) ranges = choice-range (is_free look name) (Declares form name) Outside ranges tt
+named-range look form (Some name) ranges = choice-range (is_undeclared look name) (Declares form name) Outside ranges tt
 
 create-range : (look : Look) (form : Form) (words : List (List ℕ)) → HasRanges form → IsReadInRange (create look form words)
 create-range look form [] ranges = ranges
-create-range look form (word ∷ words) ranges = choice-range _ (named look form (only_of words)) Outside (named-range look form (only_of words) ranges) tt
+create-range look form (word ∷ words) ranges = choice-range _ (declaring look form (only_of words)) Outside (named-range look form (only_of words) ranges) tt
 
 says_open-range : (client file : ℕ) (device : Option ℕ) → IsCaller client file → ((d : ℕ) → device ≡ Some d → d < 2) → IsReadInRange (says_open client file device)
 says_open-range client file None caller range = tt
@@ -103,7 +103,7 @@ behind_verb-range look verb.AllocPd client file words caller = create-range look
 behind_verb-range look verb.DeallocPd client file words caller = says_dealloc_pd-range client file (handle_operand look words) caller
 behind_verb-range look verb.Raw client file words caller = says_raw-range client file (bytes_operand words) caller
 
-with_verb-range : (look : Look) (client file : ℕ) (words : List (List ℕ)) (v : Option Verb) → IsCaller client file → IsReadInRange (with_verb look client file words v)
+with_verb-range : (look : Look) (client file : ℕ) (words : List (List ℕ)) (v : Option Verb) → IsCaller client file → IsReadInRange (given_verb look client file words v)
 with_verb-range look client file words None caller = tt
 with_verb-range look client file words (Some v) caller = behind_verb-range look v client file words caller
 
@@ -111,21 +111,21 @@ behind_file-range : (look : Look) (client file : ℕ) (words : List (List ℕ)) 
 behind_file-range look client file [] caller = tt
 behind_file-range look client file (word ∷ words) caller = with_verb-range look client file words (verb_of word) caller
 
-with_file-range : (look : Look) (client : ℕ) (words : List (List ℕ)) (file : Option ℕ) → (1 ≤ client) × (client ≤ 8) → ((f : ℕ) → file ≡ Some f → f < 16) → IsReadInRange (with_file look client words file)
+with_file-range : (look : Look) (client : ℕ) (words : List (List ℕ)) (file : Option ℕ) → (1 ≤ client) × (client ≤ 8) → ((f : ℕ) → file ≡ Some f → f < 16) → IsReadInRange (given_file look client words file)
 with_file-range look client words None some range = tt
 with_file-range look client words (Some f) some range = behind_file-range look client f words (record { first = some.0; last = some.1; below = range f refl })
 
 behind_client-range : (look : Look) (client : ℕ) (words : List (List ℕ)) → (1 ≤ client) × (client ≤ 8) → IsReadInRange (behind_client look client words)
 behind_client-range look client [] some = tt
-behind_client-range look client (word ∷ words) some = with_file-range look client words (file_of word) some (file_of-range word)
+behind_client-range look client (word ∷ words) some = with_file-range look client words (file_word word) some (file_of-range word)
 
-with_client-range : (look : Look) (words : List (List ℕ)) (client : Option ℕ) → ((c : ℕ) → client ≡ Some c → (1 ≤ c) × (c ≤ 8)) → IsReadInRange (with_client look words client)
+with_client-range : (look : Look) (words : List (List ℕ)) (client : Option ℕ) → ((c : ℕ) → client ≡ Some c → (1 ≤ c) × (c ≤ 8)) → IsReadInRange (given_client look words client)
 with_client-range look words None range = tt
 with_client-range look words (Some c) range = behind_client-range look c words (range c refl)
 
 words_reading-range : (look : Look) (words : List (List ℕ)) → IsReadInRange (words_reading look words)
 words_reading-range look [] = tt
-words_reading-range look (word ∷ words) = with_client-range look words (client_of word) (client_of-range word)
+words_reading-range look (word ∷ words) = with_client-range look words (client_word word) (client_of-range word)
 
 text_reading-range : (look : Look) (text : List ℕ) → IsReadInRange (text_reading look text)
 text_reading-range look text =

@@ -9,5 +9,5 @@ abbrev pub is_hex_length : List ℕ → Bool
 is_hex_length word = nat_le 2 (length word) && nat_le (length word) HEX_DIGITS
 
 -- the bytes that a word spells: two hexadecimal digits in either case for each byte, the high four bits first
-abbrev pub bytes_of : List ℕ → Option (List ℕ)
-bytes_of word = if is_hex_length word then result_ok (decode_of word) else None
+abbrev pub spelled_bytes : List ℕ → Option (List ℕ)
+spelled_bytes word = if is_hex_length word then result_ok (decode_of word) else None

@@ -18,13 +18,13 @@ abbrev pub as_device : ℕ → Option ℕ
 as_device n = if nat_lt n DEVICES then Some n else None
 
 -- `c1` to `c8`
-abbrev pub client_of : List ℕ → Option ℕ
-client_of word = option_and_then as_client (numbered 99 word)
+abbrev pub client_word : List ℕ → Option ℕ
+client_word word = option_and_then as_client (numbered 99 word)
 
 -- `f0` to `f15`
-abbrev pub file_of : List ℕ → Option ℕ
-file_of word = option_and_then as_file (numbered 102 word)
+abbrev pub file_word : List ℕ → Option ℕ
+file_word word = option_and_then as_file (numbered 102 word)
 
 -- `d0` and `d1`
-abbrev pub device_of : List ℕ → Option ℕ
-device_of word = option_and_then as_device (numbered 100 word)
+abbrev pub device_word : List ℕ → Option ℕ
+device_word word = option_and_then as_device (numbered 100 word)

@@ -8,11 +8,11 @@ use Rattle.uv_num.specs.declared.limits.TheConstants.{MOST_HANDLE}
 use Rattle.uv_num.specs.declared.request.Request.{Request}
 use Rattle.uv_schema.specs.Commands.{command_of}
 use Rattle.uv_script.specs.Built.{is_built}
-use Rattle.uv_script.specs.Bytes.{bytes_of}
+use Rattle.uv_script.specs.Bytes.{spelled_bytes}
 use Rattle.uv_script.specs.Lines.{text_of, is_plain_text}
 use Rattle.uv_script.specs.Words.{words_of, only_of}
 use Rattle.uv_script.specs.Numbers.{number_of}
-use Rattle.uv_script.specs.Places.{client_of, file_of, device_of}
+use Rattle.uv_script.specs.Places.{client_word, file_word, device_word}
 use Rattle.uv_script.specs.Names.{is_name, Look}
 use Rattle.uv_script.specs.declared.form.Handle.{Handle}
 use Rattle.uv_script.specs.declared.form.Handle.TheVariants.{Number, Name}
@@ -41,32 +41,32 @@ abbrev pub as_handle : ℕ → Option Handle
 as_handle n = if nat_le n MOST_HANDLE then Some (Number n) else None
 
 -- `#` and a number below 2^32, or a name that is declared
-abbrev pub handle_of : Look → List ℕ → Option Handle
-handle_of look word =
+abbrev pub handle_word : Look → List ℕ → Option Handle
+handle_word look word =
     if starts_with nat_eq word (codes "#")
     then option_and_then as_handle (number_of (drop 1 word))
     else option_map Name (look word)
 
 -- one word, which is a handle
 abbrev pub handle_operand : Look → List (List ℕ) → Option Handle
-handle_operand look words = option_and_then (handle_of look) (only_of words)
+handle_operand look words = option_and_then (handle_word look) (only_of words)
 
 -- one word, which is a device
 abbrev pub device_operand : List (List ℕ) → Option ℕ
-device_operand words = option_and_then device_of (only_of words)
+device_operand words = option_and_then device_word (only_of words)
 
 -- a name that can be declared
-abbrev pub is_free : Look → List ℕ → Bool
-is_free look name = is_name name && is_none (look name)
+abbrev pub is_undeclared : Look → List ℕ → Bool
+is_undeclared look name = is_name name && is_none (look name)
 
-abbrev pub named : Look → Form → Option (List ℕ) → Reading
-named look form None = Outside
-named look form (Some name) = if is_free look name then Declares form name else Outside
+abbrev pub declaring : Look → Form → Option (List ℕ) → Reading
+declaring look form None = Outside
+declaring look form (Some name) = if is_undeclared look name then Declares form name else Outside
 
 -- a create: no words, or `as` and a name
 abbrev pub create : Look → Form → List (List ℕ) → Reading
 create look form [] = Says form
-create look form (word ∷ words) = if pointwise nat_eq word (codes "as") then named look form (only_of words) else Outside
+create look form (word ∷ words) = if pointwise nat_eq word (codes "as") then declaring look form (only_of words) else Outside
 
 -- `open D`
 abbrev pub says_open : ℕ → ℕ → Option ℕ → Reading
@@ -80,7 +80,7 @@ says_dealloc_pd client file (Some pd) = Says (DeallocPd client file pd)
 
 -- one word, which spells bytes
 abbrev pub bytes_operand : List (List ℕ) → Option (List ℕ)
-bytes_operand words = option_and_then bytes_of (only_of words)
+bytes_operand words = option_and_then spelled_bytes (only_of words)
 
 -- a command that is refused says its errno, and one that asks for a request says that request, if its line is built
 abbrev pub says_command : ℕ → ℕ → Result Request Errno → Reading
@@ -108,30 +108,30 @@ verb_of word =
     else (if pointwise nat_eq word (codes "raw") then Some verb.Raw
     else None)))
 
-abbrev pub with_verb : Look → ℕ → ℕ → List (List ℕ) → Option Verb → Reading
-with_verb look client file words None = Outside
-with_verb look client file words (Some v) = behind_verb look v client file words
+abbrev pub given_verb : Look → ℕ → ℕ → List (List ℕ) → Option Verb → Reading
+given_verb look client file words None = Outside
+given_verb look client file words (Some v) = behind_verb look v client file words
 
 abbrev pub behind_file : Look → ℕ → ℕ → List (List ℕ) → Reading
 behind_file look client file [] = Outside
-behind_file look client file (word ∷ words) = with_verb look client file words (verb_of word)
+behind_file look client file (word ∷ words) = given_verb look client file words (verb_of word)
 
-abbrev pub with_file : Look → ℕ → List (List ℕ) → Option ℕ → Reading
-with_file look client words None = Outside
-with_file look client words (Some file) = behind_file look client file words
+abbrev pub given_file : Look → ℕ → List (List ℕ) → Option ℕ → Reading
+given_file look client words None = Outside
+given_file look client words (Some file) = behind_file look client file words
 
 abbrev pub behind_client : Look → ℕ → List (List ℕ) → Reading
 behind_client look client [] = Outside
-behind_client look client (word ∷ words) = with_file look client words (file_of word)
+behind_client look client (word ∷ words) = given_file look client words (file_word word)
 
-abbrev pub with_client : Look → List (List ℕ) → Option ℕ → Reading
-with_client look words None = Outside
-with_client look words (Some client) = behind_client look client words
+abbrev pub given_client : Look → List (List ℕ) → Option ℕ → Reading
+given_client look words None = Outside
+given_client look words (Some client) = behind_client look client words
 
 -- no words, or a client, a file, a verb, and what the verb takes
 abbrev pub words_reading : Look → List (List ℕ) → Reading
 words_reading look [] = Nothing
-words_reading look (word ∷ words) = with_client look words (client_of word)
+words_reading look (word ∷ words) = given_client look words (client_word word)
 
 -- a text whose first byte is `#`
 abbrev pub is_remark : List ℕ → Bool

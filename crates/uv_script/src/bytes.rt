@@ -3,7 +3,7 @@
 ghost use Rattle.std.specs.Prelude.{◌≡◌, IfOk};
 ghost use Rattle.std.specs.Result.{result_ok};
 ghost use Rattle.hex.specs.Hex.{decode_of};
-ghost use Rattle.uv_script.specs.Bytes.{bytes_of, is_hex_length};
+ghost use Rattle.uv_script.specs.Bytes.{spelled_bytes, is_hex_length};
 
 use hex::FromHexError;
 use std::alloc::{AllocError, Global};
@@ -11,7 +11,7 @@ use uv_num::{HEX_DIGITS, List};
 
 /// The bytes that a word spells, if it spells some: two hexadecimal digits in either case for each.
 pub(crate) fn bytes_in(alloc: Global, word: &[u8]) -> Result<Option<List<u8>>, AllocError>
-    ensures { IfOk result (λ bytes. bytes ≡ bytes_of word.now) }
+    ensures { IfOk result (λ bytes. bytes ≡ spelled_bytes word.now) }
 {
     if is_hex_length(word) {
         decoded(alloc, word)

@@ -1,14 +1,14 @@
 //! The words for clients, files and devices.
 
 ghost use Rattle.std.specs.Prelude.{◌≡◌};
-ghost use Rattle.uv_script.specs.Places.{client_of, file_of, device_of, as_client, as_file, as_device, numbered};
+ghost use Rattle.uv_script.specs.Places.{client_word, file_word, device_word, as_client, as_file, as_device, numbered};
 
 use crate::numbers::decimal;
 use uv_num::{CLIENTS, DEVICES, FILES};
 
 /// The client that a word names: `c1` to `c8`.
 pub(crate) fn client(word: &[u8]) -> Option<u32>
-    ensures { result ≡ client_of word.now }
+    ensures { result ≡ client_word word.now }
 {
     as_client(numbered(b'c', word)?)
 }
@@ -25,7 +25,7 @@ fn as_client(number: u64) -> Option<u32>
 
 /// The file that a word names: `f0` to `f15`.
 pub(crate) fn file(word: &[u8]) -> Option<u32>
-    ensures { result ≡ file_of word.now }
+    ensures { result ≡ file_word word.now }
 {
     as_file(numbered(b'f', word)?)
 }
@@ -42,7 +42,7 @@ fn as_file(number: u64) -> Option<u32>
 
 /// The device that a word names: `d0` or `d1`.
 pub(crate) fn device(word: &[u8]) -> Option<u32>
-    ensures { result ≡ device_of word.now }
+    ensures { result ≡ device_word word.now }
 {
     as_device(numbered(b'd', word)?)
 }

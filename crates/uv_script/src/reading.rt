@@ -5,7 +5,7 @@ ghost use Rattle.std.specs.Option.{option_map};
 ghost use Rattle.uv_script.specs.Words.{words_of, only_of};
 ghost use Rattle.uv_script.specs.Kept.{line_kept};
 ghost use Rattle.uv_script.specs.Numbers.{number_of};
-ghost use Rattle.uv_script.specs.Reading.{seen, reading_of, is_remark, words_reading, behind_client, behind_file, verb_of, behind_verb, says_open, says_dealloc_pd, create, named, is_free, device_operand, handle_operand, handle_of, as_handle, bytes_operand, says_command, says_raw};
+ghost use Rattle.uv_script.specs.Reading.{seen, reading_of, is_remark, words_reading, behind_client, behind_file, verb_of, behind_verb, says_open, says_dealloc_pd, create, declaring, is_undeclared, device_operand, handle_operand, handle_word, as_handle, bytes_operand, says_command, says_raw};
 
 use crate::built::is_built;
 use crate::bytes::bytes_in;
@@ -228,7 +228,7 @@ fn create<'a>(names: &Names<'_>, form: Form, text: &'a [u8]) -> Read<'a>
 
 /// A create with what stands behind its `as`: one name that isn't declared yet.
 fn named<'a>(names: &Names<'_>, form: Form, text: &'a [u8]) -> Read<'a>
-    ensures { seen result ≡ named (line_kept names.now) form (only_of (words_of text.now)) }
+    ensures { seen result ≡ declaring (line_kept names.now) form (only_of (words_of text.now)) }
 {
     match only_word(text) {
         None => Read::Outside,
@@ -243,7 +243,7 @@ fn named<'a>(names: &Names<'_>, form: Form, text: &'a [u8]) -> Read<'a>
 }
 
 fn is_free(names: &Names<'_>, name: &[u8]) -> bool
-    ensures { result ≡ is_free (line_kept names.now) name.now }
+    ensures { result ≡ is_undeclared (line_kept names.now) name.now }
 {
     is_name(name) && names.line(name).is_none()
 }
@@ -271,7 +271,7 @@ fn bytes_operand(alloc: Global, text: &[u8]) -> Result<Option<List<u8>>, AllocEr
 
 /// A handle: `#` and a number, or a name that is declared.
 fn handle(names: &Names<'_>, word: &[u8]) -> Option<Handle>
-    ensures { result ≡ handle_of (line_kept names.now) word.now }
+    ensures { result ≡ handle_word (line_kept names.now) word.now }
 {
     match word.strip_prefix(b"#") {
         Some(digits) => numbered_handle(digits),

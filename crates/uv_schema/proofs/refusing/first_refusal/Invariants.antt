@@ -1,6 +1,6 @@
 use Rattle.std.proofs.Common.{◌≡◌, drop}
-use Rattle.uv_schema.specs.Refusals.{first_refusal}
+use Rattle.uv_schema.specs.Refusals.{attrs_refusal}
 use Rattle.uv_schema.proofs.refusing.first_refusal.Given as goal
 
 abbrev pub invariant-loop-attr : goal.invariant-loop-attr
-invariant-loop-attr l = first_refusal l.wanted (drop l.attr-index l.attrs) ≡ first_refusal l.wanted l.attrs
+invariant-loop-attr l = attrs_refusal l.wanted (drop l.attr-index l.attrs) ≡ attrs_refusal l.wanted l.attrs
