@@ -1,3 +1,5 @@
+mod Burying
 pub mod Choosing
+mod Filling
 pub mod Homing
 pub mod Places

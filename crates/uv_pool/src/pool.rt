@@ -27,16 +27,16 @@ impl<D: Deed> Model for Pool<D> {
 
     ghost view = { λ p. record { kind = p.kind; deeds = p.deeds; next = p.next } };
 
-    ghost invariant = { λ p. IsPool D.kind_of D.index_of (record { kind = p.kind; deeds = p.deeds; next = p.next }) };
+    ghost invariant = { λ p. IsPool D.facts (record { kind = p.kind; deeds = p.deeds; next = p.next }) };
 }
 
 impl<D: Deed> Pool<D> {
     /// A pool of these deeds, one for each cell of their kind, in the order of the cells. All are home, and the first one
     /// is drawn first. On an error the deeds are dropped.
     pub fn new(alloc: Global, deeds: List<D>) -> Result<Pool<D>, AllocError>
-        requires { (kind : Kind) × AreOfCells D.kind_of D.index_of kind deeds }
+        requires { (kind : Kind) × AreOfCells D.facts kind deeds }
         ensures deeds { IfOk result (λ p. p ≡ full_homes p.kind deeds) }
-        ensures kind { IfOk result (λ p. AreOfCells D.kind_of D.index_of p.kind deeds) }
+        ensures kind { IfOk result (λ p. AreOfCells D.facts p.kind deeds) }
         ensures home { IfOk result (λ p. IsTrue (has_all p)) }
     {
         let kind = first_kind(deeds.as_slice());
@@ -50,11 +50,11 @@ impl<D: Deed> Pool<D> {
     /// Takes the deed out that is next: the first one that is home and not spent at or behind the place behind the last
     /// choice, else the first one before it. None exactly where no deed is home, and then nothing changes.
     pub fn draw(&mut self) -> Option<D>
-        ensures deed { result ≡ deed_at_if self.old (home_place D.is_spent self.old) }
-        ensures pool { self.new ≡ drawn_if (home_place D.is_spent self.old) self.old }
-        ensures some { is_some result ≡ is_some (home_place D.is_spent self.old) }
-        ensures own { IfSome result (λ d. IsDrawn D.kind_of D.index_of D.is_spent self.old d) }
-        ensures out { IfSome result (λ d. IsOutOf D.kind_of D.index_of self.new d) }
+        ensures deed { result ≡ deed_at_if self.old (home_place D.facts self.old) }
+        ensures pool { self.new ≡ drawn_if (home_place D.facts self.old) self.old }
+        ensures some { is_some result ≡ is_some (home_place D.facts self.old) }
+        ensures own { IfSome result (λ d. IsDrawn D.facts self.old d) }
+        ensures out { IfSome result (λ d. IsOutOf D.facts self.new d) }
     {
         match self.home_place() {
             None => None,
@@ -64,8 +64,8 @@ impl<D: Deed> Pool<D> {
 
     /// Brings a deed home to the place of its cell. A spent one stays there for good.
     pub fn home(&mut self, deed: D)
-        requires { IsOutOf D.kind_of D.index_of self.old deed }
-        ensures { self.new ≡ brought (D.index_of deed) deed self.old }
+        requires { IsOutOf D.facts self.old deed }
+        ensures { self.new ≡ brought ((D.facts deed).index) deed self.old }
     {
         let place = deed.index() as usize;
         *self.deeds.item_mut(place) = Some(deed);
@@ -75,7 +75,7 @@ impl<D: Deed> Pool<D> {
     pub fn deeds(self, alloc: Global) -> Result<List<D>, AllocError>
         requires { IsTrue (has_all self) }
         ensures deeds { IfOk result (λ ds. map Some ds ≡ self.deeds) }
-        ensures cells { IfOk result (λ ds. AreOfCells D.kind_of D.index_of self.kind ds) }
+        ensures cells { IfOk result (λ ds. AreOfCells D.facts self.kind ds) }
     {
         let Pool { deeds, .. } = self;
         Ok(List::from_vec(all_of(alloc, deeds.into_vec())?))
@@ -84,7 +84,7 @@ impl<D: Deed> Pool<D> {
     /// The kind of the objects that the deeds' cells are for. What is true of every pool is told with it.
     pub fn kind(&self) -> Kind
         ensures kind { result ≡ self.now.kind }
-        ensures pool { IsPool D.kind_of D.index_of self.now }
+        ensures pool { IsPool D.facts self.now }
     {
         self.kind
     }
@@ -107,7 +107,7 @@ impl<D: Deed> Pool<D> {
         requires { place < CELLS }
         ensures deed { result ≡ deed_at self.old place }
         ensures pool { self.new ≡ drawn place self.old }
-        ensures own { IfSome result (λ d. IsOfCell D.kind_of D.index_of self.old.kind place d) }
+        ensures own { IfSome result (λ d. IsOfCell D.facts self.old.kind place d) }
     {
         let deed = self.deeds.item_mut(place).take();
         self.next = (place + 1) % CELLS;
@@ -115,9 +115,9 @@ impl<D: Deed> Pool<D> {
     }
 
     fn home_place(&self) -> Option<usize>
-        ensures place { result ≡ home_place D.is_spent self.now }
+        ensures place { result ≡ home_place D.facts self.now }
         ensures within { IfSome result (λ i. i < CELLS) }
-        ensures home { IfSome result (λ i. IsHomeAt D.is_spent self.now.deeds i) }
+        ensures home { IfSome result (λ i. IsHomeAt D.facts self.now.deeds i) }
     {
         match self.home_behind() {
             Some(place) => Some(place),
@@ -126,9 +126,9 @@ impl<D: Deed> Pool<D> {
     }
 
     fn home_behind(&self) -> Option<usize>
-        ensures place { result ≡ option_map (λ i. self.now.next + i) (position (is_home D.is_spent) (drop self.now.next self.now.deeds)) }
+        ensures place { result ≡ option_map (λ i. self.now.next + i) (position (is_home D.facts) (drop self.now.next self.now.deeds)) }
         ensures within { IfSome result (λ i. i < CELLS) }
-        ensures home { IfSome result (λ i. IsHomeAt D.is_spent self.now.deeds i) }
+        ensures home { IfSome result (λ i. IsHomeAt D.facts self.now.deeds i) }
     {
         match first_home_behind(self.deeds.as_slice(), self.next) {
             None => None,
@@ -137,30 +137,30 @@ impl<D: Deed> Pool<D> {
     }
 
     fn home_before(&self) -> Option<usize>
-        ensures place { result ≡ position (is_home D.is_spent) (take self.now.next self.now.deeds) }
+        ensures place { result ≡ position (is_home D.facts) (take self.now.next self.now.deeds) }
         ensures within { IfSome result (λ i. i < CELLS) }
-        ensures home { IfSome result (λ i. IsHomeAt D.is_spent self.now.deeds i) }
+        ensures home { IfSome result (λ i. IsHomeAt D.facts self.now.deeds i) }
     {
         first_home_among(self.deeds.as_slice(), self.next)
     }
 }
 
 fn first_home_behind<D: Deed>(deeds: &[Option<D>], next: usize) -> Option<usize>
-    ensures place { result ≡ position (is_home D.is_spent) (drop next deeds.now) }
-    ensures home { IfSome result (λ i. IsHomeAt D.is_spent deeds.now (next + i)) }
+    ensures place { result ≡ position (is_home D.facts) (drop next deeds.now) }
+    ensures home { IfSome result (λ i. IsHomeAt D.facts deeds.now (next + i)) }
 {
     deeds.iter().skip(next).position(|slot| is_home(slot))
 }
 
 fn first_home_among<D: Deed>(deeds: &[Option<D>], count: usize) -> Option<usize>
-    ensures place { result ≡ position (is_home D.is_spent) (take count deeds.now) }
-    ensures home { IfSome result (λ i. IsHomeAt D.is_spent deeds.now i) }
+    ensures place { result ≡ position (is_home D.facts) (take count deeds.now) }
+    ensures home { IfSome result (λ i. IsHomeAt D.facts deeds.now i) }
 {
     deeds.iter().take(count).position(|slot| is_home(slot))
 }
 
 fn is_home<D: Deed>(slot: &Option<D>) -> bool
-    ensures { result ≡ is_home D.is_spent slot.now }
+    ensures { result ≡ is_home D.facts slot.now }
 {
     match slot {
         None => false,
@@ -169,8 +169,8 @@ fn is_home<D: Deed>(slot: &Option<D>) -> bool
 }
 
 fn first_kind<D: Deed>(deeds: &[D]) -> Kind
-    requires { (kind : Kind) × AreOfCells D.kind_of D.index_of kind deeds.now }
-    ensures { AreOfCells D.kind_of D.index_of result deeds.now }
+    requires { (kind : Kind) × AreOfCells D.facts kind deeds.now }
+    ensures { AreOfCells D.facts result deeds.now }
 {
     deeds[0].kind()
 }

@@ -1,89 +1,13 @@
-//! Pools of deeds that have no contents.
+//! Pools of plain deeds, plain deeds themselves, and keys.
 
-ghost use Rattle.std.specs.Prelude.{◌≡◌, ◌<◌, IfOk, IfSome, IsTrue};
-ghost use Rattle.uv_num.specs.declared.limits.TheConstants.{CELLS};
-ghost use Rattle.uv_pool.specs.Homes.{AreOfCells, has_all};
-
-use crate::{Deed, Pool, key_is_read_back, key_of, key_of_what_it_names, of_key};
+use crate::plain::{PlainDeed, full_pool, full_pools, full_pools_with_lives};
+use crate::{
+    Deed, Life, Pool, key_is_read_back, key_of, key_of_what_it_names, new_is_planted, of_key,
+    planted_is_buried,
+};
 use std::alloc::{AllocError, Global};
 use std::test::Fail;
-use uv_num::{CELLS, Identity, Ids, Kind, List, MOST_GENERATION, Request};
-
-/// A deed that stands for a cell without contents, and doesn't tell its lives.
-#[derive(Drop)]
-struct PlainDeed {
-    kind: Kind,
-    index: u32,
-    generation: u32,
-    spent: bool,
-    planted: Option<Identity>,
-    ghost in_range: { index < CELLS },
-}
-
-impl Deed for PlainDeed {
-    ghost use Rattle.std.specs.Prelude.{None};
-    ghost use Rattle.std.specs.Option.{is_some};
-
-    ghost kind_of = { λ d. d.kind };
-
-    ghost index_of = { λ d. d.index };
-
-    ghost generation_of = { λ d. d.generation };
-
-    ghost is_spent = { λ d. d.spent };
-
-    ghost is_planted = { λ d. is_some d.planted };
-
-    ghost identity_of = { λ d. d.planted };
-
-    ghost lives_of = { λ _. None };
-
-    fn kind(&self) -> Kind {
-        self.kind
-    }
-
-    fn index(&self) -> u32 {
-        self.index
-    }
-
-    fn generation(&self) -> u32 {
-        self.generation
-    }
-
-    fn spent(&self) -> bool {
-        self.spent
-    }
-}
-
-fn plain(kind: Kind, index: u32) -> PlainDeed
-    requires { index < CELLS }
-    ensures kind { result.kind ≡ kind }
-    ensures index { result.index ≡ index }
-{
-    PlainDeed {
-        kind,
-        index,
-        generation: 0,
-        spent: false,
-        planted: None,
-    }
-}
-
-fn plain_deeds(alloc: Global, kind: Kind) -> Result<List<PlainDeed>, AllocError>
-    ensures { IfOk result (λ deeds. AreOfCells ⟦<PlainDeed as Deed>⟧.kind_of ⟦<PlainDeed as Deed>⟧.index_of kind deeds) }
-{
-    let mut deeds = List::new(alloc);
-    for index in 0..CELLS as u32 {
-        deeds.push(plain(kind, index))?;
-    }
-    Ok(deeds)
-}
-
-fn full_pool(alloc: Global, kind: Kind) -> Result<Pool<PlainDeed>, AllocError>
-    ensures { IfOk result (λ p. IsTrue (has_all p)) }
-{
-    Pool::new(alloc, plain_deeds(alloc, kind)?)
-}
+use uv_num::{Identity, Ids, KINDS, Kind, List, MOST_GENERATION, Request};
 
 /// Draws a deed and loses it. Gives its index.
 fn lost(pool: &mut Pool<PlainDeed>) -> Option<u32> {
@@ -95,20 +19,17 @@ fn lost(pool: &mut Pool<PlainDeed>) -> Option<u32> {
 fn buried(pool: &mut Pool<PlainDeed>) -> Option<u32> {
     let mut deed = pool.draw()?;
     let index = deed.index();
-    if deed.generation < MOST_GENERATION {
-        deed.generation += 1;
-    } else {
-        deed.spent = true;
-    }
+    deed.bury();
     pool.home(deed);
     Some(index)
 }
 
-/// Draws a deed, spends it, and brings it home. Gives its index.
+/// Draws a deed, buries its cell at the last generation, and brings it home. Gives its index.
 fn spent(pool: &mut Pool<PlainDeed>) -> Option<u32> {
     let mut deed = pool.draw()?;
     let index = deed.index();
-    deed.spent = true;
+    deed.generation = MOST_GENERATION;
+    deed.bury();
     pool.home(deed);
     Some(index)
 }
@@ -123,7 +44,7 @@ fn all_back(alloc: Global, pool: Pool<PlainDeed>) -> Result<Option<List<PlainDee
 
 #[test]
 fn deeds_are_drawn_one_behind_the_other(rt: HostRuntime) -> Result<(), Fail> {
-    let mut pool = full_pool(rt.alloc(), Kind::Mr)?;
+    let mut pool = full_pool(rt.alloc(), Kind::Mr, false)?;
     assert_eq!(rt; pool.kind(), Kind::Mr);
     assert!(rt; !pool.is_out(0));
     assert_eq!(rt; lost(&mut pool), Some(0));
@@ -137,7 +58,7 @@ fn deeds_are_drawn_one_behind_the_other(rt: HostRuntime) -> Result<(), Fail> {
 
 #[test]
 fn the_choice_goes_round(rt: HostRuntime) -> Result<(), Fail> {
-    let mut pool = full_pool(rt.alloc(), Kind::Pd)?;
+    let mut pool = full_pool(rt.alloc(), Kind::Pd, false)?;
     assert_eq!(rt; buried(&mut pool), Some(0));
     assert_eq!(rt; lost(&mut pool), Some(1));
     for index in 2..64 {
@@ -150,7 +71,7 @@ fn the_choice_goes_round(rt: HostRuntime) -> Result<(), Fail> {
 
 #[test]
 fn a_spent_deed_is_never_drawn(rt: HostRuntime) -> Result<(), Fail> {
-    let mut pool = full_pool(rt.alloc(), Kind::Qp)?;
+    let mut pool = full_pool(rt.alloc(), Kind::Qp, false)?;
     assert_eq!(rt; spent(&mut pool), Some(0));
     for index in 1..64 {
         assert_eq!(rt; lost(&mut pool), Some(index));
@@ -163,7 +84,7 @@ fn a_spent_deed_is_never_drawn(rt: HostRuntime) -> Result<(), Fail> {
 
 #[test]
 fn all_deeds_come_back_in_the_order_of_their_cells(rt: HostRuntime) -> Result<(), Fail> {
-    let mut pool = full_pool(rt.alloc(), Kind::Mw)?;
+    let mut pool = full_pool(rt.alloc(), Kind::Mw, false)?;
     assert_eq!(rt; spent(&mut pool), Some(0));
     assert_eq!(rt; buried(&mut pool), Some(1));
     let Some(deeds) = all_back(rt.alloc(), pool)? else {
@@ -181,14 +102,14 @@ fn all_deeds_come_back_in_the_order_of_their_cells(rt: HostRuntime) -> Result<()
 
 #[test]
 fn a_full_pool_gives_back_what_it_was_given(rt: HostRuntime) -> Result<(), Fail> {
-    let deeds = full_pool(rt.alloc(), Kind::Cq)?.deeds(rt.alloc())?;
+    let deeds = full_pool(rt.alloc(), Kind::Cq, false)?.deeds(rt.alloc())?;
     assert_eq!(rt; deeds.len(), 64);
     Ok(())
 }
 
 #[test]
 fn nothing_is_given_back_while_a_deed_is_out(rt: HostRuntime) -> Result<(), Fail> {
-    let mut pool = full_pool(rt.alloc(), Kind::Mw)?;
+    let mut pool = full_pool(rt.alloc(), Kind::Mw, false)?;
     assert_eq!(rt; lost(&mut pool), Some(0));
     assert!(rt; all_back(rt.alloc(), pool)?.is_none());
     Ok(())
@@ -196,8 +117,25 @@ fn nothing_is_given_back_while_a_deed_is_out(rt: HostRuntime) -> Result<(), Fail
 
 #[test]
 fn a_deed_is_drawn_as_it_came_home(rt: HostRuntime) -> Result<(), Fail> {
-    let mut pool = full_pool(rt.alloc(), Kind::Mr)?;
-    let identity = Identity {
+    let mut pool = full_pool(rt.alloc(), Kind::Mr, false)?;
+    let Some(mut deed) = pool.draw() else {
+        return Err(Fail::from("no deed is home"));
+    };
+    deed.plant(region())?;
+    pool.home(deed);
+    for index in 1..64 {
+        assert_eq!(rt; lost(&mut pool), Some(index));
+    }
+    let Some(deed) = pool.draw() else {
+        return Err(Fail::from("no deed is home"));
+    };
+    assert_eq!(rt; deed.identity, Some(region()));
+    Ok(())
+}
+
+/// A region, as it was planted.
+fn region() -> Identity {
+    Identity {
         id: 5,
         kind: Kind::Mr,
         request: Request::RegMr {
@@ -206,19 +144,65 @@ fn a_deed_is_drawn_as_it_came_home(rt: HostRuntime) -> Result<(), Fail> {
             access: 0,
         },
         uses: Ids::one(4),
-    };
-    let Some(mut deed) = pool.draw() else {
-        return Err(Fail::from("no deed is home"));
-    };
-    deed.planted = Some(identity);
-    pool.home(deed);
-    for index in 1..64 {
-        assert_eq!(rt; lost(&mut pool), Some(index));
     }
-    let Some(deed) = pool.draw() else {
+}
+
+#[test]
+fn a_plain_deed_knows_what_it_is_planted_for(rt: HostRuntime) -> Result<(), Fail> {
+    let mut deed = PlainDeed::new(Kind::Mr, 7, None);
+    assert!(rt; !deed.is_planted_for(region(), 7, 0));
+    deed.plant(region())?;
+    assert!(rt; deed.is_planted_for(region(), 7, 0));
+    assert!(rt; !deed.is_planted_for(region(), 8, 0));
+    assert!(rt; !deed.is_planted_for(region(), 7, 1));
+    assert!(rt; !deed.is_buried(Kind::Mr, 7, 0));
+    deed.bury();
+    assert!(rt; deed.is_buried(Kind::Mr, 7, 0));
+    assert!(rt; !deed.is_buried(Kind::Mw, 7, 0));
+    assert_eq!(rt; deed.generation(), 1);
+    deed.generation = MOST_GENERATION;
+    deed.bury();
+    assert!(rt; deed.spent());
+    assert!(rt; deed.is_buried(Kind::Mr, 7, MOST_GENERATION));
+    Ok(())
+}
+
+#[test]
+fn a_plain_deed_keeps_the_lives_of_its_cell(rt: HostRuntime) -> Result<(), Fail> {
+    let mut deed = PlainDeed::new(Kind::Mr, 7, Some(List::new(rt.alloc())));
+    for _turn in 0..2 {
+        deed.plant(region())?;
+        deed.bury();
+    }
+    let Some(lives) = &deed.lives else {
+        return Err(Fail::from("no lives are kept"));
+    };
+    let one = Life {
+        generation: 0,
+        identity: region(),
+    };
+    let other = Life {
+        generation: 1,
+        ..one
+    };
+    assert_eq!(rt; lives.as_slice(), [one, other].as_slice());
+    assert!(rt; !deed.is_buried(Kind::Mr, 7, 1));
+    Ok(())
+}
+
+#[test]
+fn full_pools_are_of_all_kinds(rt: HostRuntime) -> Result<(), Fail> {
+    let pools = full_pools(rt.alloc())?;
+    assert_eq!(rt; pools.len(), KINDS);
+    for (place, pool) in pools.as_slice().iter().enumerate() {
+        assert_eq!(rt; pool.kind().place(), place);
+        assert!(rt; pool.has_all());
+    }
+    let mut pools = full_pools_with_lives(rt.alloc())?;
+    let Some(deed) = pools.item_mut(3).draw() else {
         return Err(Fail::from("no deed is home"));
     };
-    assert_eq!(rt; deed.planted, Some(identity));
+    assert!(rt; deed.lives.is_some());
     Ok(())
 }
 
@@ -237,6 +221,8 @@ fn keys_have_the_numbers_of_the_table(rt: HostRuntime) -> Result<(), Fail> {
 fn keys_name_what_the_table_says(rt: HostRuntime) -> Result<(), Fail> {
     key_is_read_back();
     key_of_what_it_names();
+    new_is_planted();
+    planted_is_buried();
     let rows = [
         (0, None),
         (255, None),

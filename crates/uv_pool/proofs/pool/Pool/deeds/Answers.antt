@@ -5,6 +5,6 @@ use Rattle.uv_pool.proofs.pool.Pool.deeds.Goals as goal
 
 pub returns-clause-cells : goal.returns-clause-cells
 returns-clause-cells g c =
-    let P : Homes g.row.D.Denot → Type 0 = λ p. AreOfCells g.D.Deed.kind_of g.D.Deed.index_of p.kind c.from_vec.result in
+    let P : Homes g.row.D.Denot → Type 0 = λ p. AreOfCells g.D.Deed.facts p.kind c.from_vec.result in
     subst P c.self.view_is
-    (AreOfCells-IsPool g.D.Deed.kind_of g.D.Deed.index_of (record { kind = c.self.inside.kind; deeds = c.self.inside.deeds; next = c.self.inside.next }) c.from_vec.result (ap (λ ds. map Some ds) c.from_vec.ensures ∙ (c.in_ok-all_of.ensures ∙ c.into_vec.ensures)) c.self.invariant)
+    (AreOfCells-IsPool g.D.Deed.facts (record { kind = c.self.inside.kind; deeds = c.self.inside.deeds; next = c.self.inside.next }) c.from_vec.result (ap (λ ds. map Some ds) c.from_vec.ensures ∙ (c.in_ok-all_of.ensures ∙ c.into_vec.ensures)) c.self.invariant)

@@ -8,8 +8,8 @@ use Rattle.uv_pool.proofs.pool.Pool.new.Goals as goal
 
 pub invariant_of-result : goal.invariant_of-result
 invariant_of-result g c =
-    let P : List g.row.D.Denot → Type 0 = λ ds. AreOfCells g.D.Deed.kind_of g.D.Deed.index_of c.first_kind-kind.result ds in
-    IsPool-full g.D.Deed.kind_of g.D.Deed.index_of c.first_kind-kind.result c.args.deeds c.from_vec.result
+    let P : List g.row.D.Denot → Type 0 = λ ds. AreOfCells g.D.Deed.facts c.first_kind-kind.result ds in
+    IsPool-full g.D.Deed.facts c.first_kind-kind.result c.args.deeds c.from_vec.result
     (c.from_vec.ensures ∙ (c.in_ok-all_home.ensures ∙ ap (λ ds. map Some ds) c.into_vec.ensures)) (subst P c.as_slice.ensures c.first_kind-kind.ensures)
 
 pub returns-clause-home : goal.returns-clause-home
