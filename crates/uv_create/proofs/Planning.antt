@@ -1,24 +1,23 @@
 -- The words of a call that creates.
-use Rattle.std.proofs.Common.{◌≡◌, ℕ, refl, sym, ◌∙◌, inl, inr, ◌⊎◌}
-use Rattle.uv_num.specs.declared.kind.Kind.{Kind}
-use Rattle.uv_num.specs.declared.request.Role.TheVariants.{Creates, Destroys, Acts}
+use Rattle.std.proofs.Common.{◌≡◌, ℕ, true, false, refl, ap, sym, ◌∙◌, inl, inr, ◌⊎◌}
 use Rattle.uv_num.specs.Request.{role_of}
 use Rattle.uv_machine.specs.declared.entry.Word.{Word}
 use Rattle.uv_machine.specs.declared.entry.Word.TheVariants.{Act, Lock, Check, Finish}
 use Rattle.uv_machine.specs.declared.call.InFlight.{InFlight}
 use Rattle.uv_machine.specs.Plans.{next_word}
 use Rattle.uv_machine.proofs.Planned.{IsDestroying, in_plan, stands_in_plan}
+use Rattle.uv_graph.specs.Turns.{is_create}
 
-module _ (call : InFlight) (kind : Kind) (creates : role_of call.request ≡ Creates kind) where
+module _ (call : InFlight) (creates : is_create (role_of call.request) ≡ true) where
   never_acts : next_word call ≡ Act → ⊥
   never_acts e =
       let s = stands_in_plan call Act (in_plan call Act e refl) in
-      let same : Creates kind ≡ Acts s.act = sym creates ∙ s.acts in
+      let no : false ≡ true = ap is_create (sym s.acts) ∙ creates in
       absurd cc
 
   destroys_not : (place here : ℕ) → IsDestroying (role_of call.request) place here → ⊥
   destroys_not place here s =
-      let same : Creates kind ≡ Destroys s.asked = sym creates ∙ s.destroys in
+      let no : false ≡ true = ap is_create (sym s.destroys) ∙ creates in
       absurd cc
 
   never_locks : next_word call ≡ Lock → ⊥

@@ -1,5 +1,4 @@
 //! Creates played to their ends, with deeds that have no contents.
 
-mod deeds;
 mod plays;
 mod rows;

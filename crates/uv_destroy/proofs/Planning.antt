@@ -1,25 +1,25 @@
 -- The words of a call that destroys.
-use Rattle.std.proofs.Common.{◌≡◌, refl, sym, ◌∙◌, inl, inr, ◌⊎◌, ⊎_elim}
+use Rattle.std.proofs.Common.{◌≡◌, true, false, refl, ap, sym, ◌∙◌, inl, inr, ◌⊎◌, ⊎_elim}
 use Rattle.uv_num.specs.declared.kind.Kind.{Kind}
 use Rattle.uv_num.specs.declared.request.Act as request
-use Rattle.uv_num.specs.declared.request.Ask.{Ask}
-use Rattle.uv_num.specs.declared.request.Role.TheVariants.{Creates, Destroys, Acts}
+use Rattle.uv_num.specs.declared.request.Role.TheVariants.{Creates, Acts}
 use Rattle.uv_num.specs.Request.{role_of}
 use Rattle.uv_machine.specs.declared.entry.Word.{Word}
 use Rattle.uv_machine.specs.declared.entry.Word.TheVariants.{Reserve, Look, Make, Commit, Act}
 use Rattle.uv_machine.specs.declared.call.InFlight.{InFlight}
 use Rattle.uv_machine.specs.Plans.{next_word}
 use Rattle.uv_machine.proofs.Planned.{in_plan, stands_in_plan}
+use Rattle.uv_graph.specs.Turns.{is_destroy}
 
-module _ (call : InFlight) (asked : Ask) (destroys : role_of call.request ≡ Destroys asked) where
+module _ (call : InFlight) (destroys : is_destroy (role_of call.request) ≡ true) where
   creates_not : (kind : Kind) → role_of call.request ≡ Creates kind → ⊥
   creates_not kind e =
-      let same : Destroys asked ≡ Creates kind = sym destroys ∙ e in
+      let no : false ≡ true = ap is_destroy (sym e) ∙ destroys in
       absurd cc
 
   acts_not : (act : request.Act) → role_of call.request ≡ Acts act → ⊥
   acts_not act e =
-      let same : Destroys asked ≡ Acts act = sym destroys ∙ e in
+      let no : false ≡ true = ap is_destroy (sym e) ∙ destroys in
       absurd cc
 
   never_reserves : next_word call ≡ Reserve → ⊥

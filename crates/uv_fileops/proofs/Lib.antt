@@ -1,2 +1,1 @@
-mod NewPools
 mod Touched

@@ -1,9 +1,10 @@
 -- What is known of a call that acts: its words, and that what it acts on stands there.
 use Rattle.std.proofs.Common.{◌≡◌, ℕ, ◌+◌, ◌≤◌, Bool, true, false, List, [], ◌∷◌, Option, Some, None, length, refl, ap, sym, ◌∙◌, subst, arith, ◌⊎◌, inl, inr}
-use Rattle.std.specs.Prelude.{slice_get, unwrap_or, ◌==◌, ◌||◌}
+use Rattle.std.specs.Prelude.{slice_get, unwrap_or, is_some, ◌==◌, ◌||◌}
 use Rattle.std.specs.List.{list_any}
 use Rattle.std.proofs.lemmas.Option.{none-some}
 use Rattle.std.proofs.lemmas.Bool.{eq-eqb}
+use Rattle.uv_num.specs.declared.errno.Errno.{Errno}
 use Rattle.uv_num.specs.declared.limits.TheConstants.{NONE}
 use Rattle.uv_num.specs.declared.request.Request.{Request}
 use Rattle.uv_num.specs.declared.request.Request.TheVariants.{AllocPd, DeallocPd, CreateChannel, DestroyChannel, CreateCq, DestroyCq, CreateQp, DestroyQp, ModifyQp, QueryQp, CreateSrq, DestroySrq, CreateAh, DestroyAh, RegMr, DeregMr, AllocMw, DeallocMw, BindMw, GetAsync}
@@ -24,7 +25,7 @@ use Rattle.uv_machine.proofs.Planned.{StandsAt, unwinds, in_plan, stands_in_plan
 use Rattle.uv_machine.proofs.Phased.{act_has}
 use Rattle.uv_machine.proofs.Reaching.{Reached-state_of}
 use Rattle.uv_machine.proofs.Standing.{legal_looks_stand}
-use Rattle.uv_graph.specs.Turns.{is_act, role_touches, touches_at, awaits}
+use Rattle.uv_graph.specs.Turns.{is_act, is_exit, goes_plain, role_touches, touches_at, awaits}
 use Rattle.uv_graph.proofs.Holders.{object_is}
 
 -- The words of a call that acts.
@@ -43,13 +44,23 @@ is_foreign Abort = false
 is_foreign Free = false
 is_foreign Exit = false
 
-pub foreign_of : (w : Word) → (w ≡ Reserve) ⊎ ((w ≡ Make) ⊎ ((w ≡ Commit) ⊎ ((w ≡ Lock) ⊎ ((w ≡ Check) ⊎ (w ≡ Finish))))) → is_foreign w ≡ true
-foreign_of w (inl e) = ap is_foreign e
-foreign_of w (inr (inl e)) = ap is_foreign e
-foreign_of w (inr (inr (inl e))) = ap is_foreign e
-foreign_of w (inr (inr (inr (inl e)))) = ap is_foreign e
-foreign_of w (inr (inr (inr (inr (inl e))))) = ap is_foreign e
-foreign_of w (inr (inr (inr (inr (inr e))))) = ap is_foreign e
+or_true : (b : Bool) → (b || true) ≡ true
+or_true true = refl
+or_true false = refl
+
+-- the other words hand no deed out
+pub acts_go : (w : Word) (r : Option Errno) (x : Option Object) → (is_foreign w ≡ true → ⊥) → (is_exit w || (is_some r || goes_plain x w)) ≡ true
+acts_go Reserve r x own = or_true (is_some r)
+acts_go Look r x own = or_true (is_some r)
+acts_go Make r x own = absurd (own refl)
+acts_go Commit r x own = or_true (is_some r)
+acts_go Act r x own = or_true (is_some r)
+acts_go Lock r x own = or_true (is_some r)
+acts_go Check r x own = absurd (own refl)
+acts_go Finish r x own = absurd (own refl)
+acts_go Abort r x own = or_true (is_some r)
+acts_go Free r x own = or_true (is_some r)
+acts_go Exit r x own = refl
 
 acts_alone : (role : Role) (looks place : ℕ) (w : Word) → is_act role ≡ true → is_foreign w ≡ true → StandsAt role looks place w → ⊥
 acts_alone role looks place Reserve acts e s = let no = ap is_act s.creates in cc

@@ -1,18 +1,17 @@
 //! The steps of the calls that act on objects that stay: they look at what they name, act, and let it go again.
 
-ghost use Rattle.std.specs.Prelude.{◌≡◌, true, None, Some};
+ghost use Rattle.std.specs.Prelude.{◌≡◌, true, Some};
 ghost use Rattle.uv_machine.specs.declared.entry.Word.TheVariants as word;
 ghost use Rattle.uv_machine.specs.Steps.{next_of};
 ghost use Rattle.uv_machine.specs.Histories.{Allowed, IsLegal, state_of};
-ghost use Rattle.uv_graph.specs.Deeds.{told};
 ghost use Rattle.uv_graph.specs.Kept.{out_of};
 ghost use Rattle.uv_graph.specs.Notes.{Notes};
 ghost use Rattle.uv_graph.specs.Stepping.{IsAt};
 ghost use Rattle.uv_graph.specs.Turns.{is_act, touches, role_touches, awaits, step_entry, IsReady, StepGives, IsTouching, ActsBy};
-ghost use Rattle.uv_fileops.specs.Acting.{IsAtAct, IsAtEvent};
+ghost use Rattle.uv_fileops.specs.Acting.{IsAtAct, IsGoingOn};
 
 use uv_graph::{Graph, Progress};
-use uv_machine::{Answer, Done, InFlight, Word};
+use uv_machine::{Answer, Done, InFlight, Readers, Word};
 use uv_num::{Act, QpState, Role};
 use uv_pool::Deed;
 
@@ -32,6 +31,25 @@ fn role_touches(role: Role) -> bool
     match role {
         Role::Creates(_) | Role::Destroys(_) => false,
         Role::Acts(act) => touches(act),
+    }
+}
+
+/// Whether the call's next step is an act whose state is told from outside.
+fn awaits(call: InFlight) -> bool
+    ensures { result ≡ awaits call }
+{
+    match call.next_word() {
+        Word::Act => role_touches(call.request.role()),
+        Word::Reserve
+        | Word::Look
+        | Word::Make
+        | Word::Commit
+        | Word::Lock
+        | Word::Check
+        | Word::Finish
+        | Word::Abort
+        | Word::Free
+        | Word::Exit => false,
     }
 }
 
@@ -67,24 +85,11 @@ fn make_act<D: Deed>(graph: &mut Graph<D>, client: u32, found: Option<QpState>) 
     }
 }
 
-/// Takes the oldest event of the call's file, or tells why there is none.
-fn take_event<D: Deed>(graph: &mut Graph<D>, client: u32) -> Progress<D>
-    requires { IsAtEvent graph.old client }
-    ensures gives { StepGives (told D.kind_of D.index_of D.generation_of D.is_spent D.is_planted D.identity_of D.lives_of) graph.old graph.new client result }
-    ensures legal { IsLegal graph.new.history }
-{
-    let done = make_act(graph, client, None);
-    match done.answer.refusal() {
-        None => Progress::Went(Word::Act),
-        Some(errno) => Progress::Refused(Word::Act, errno),
-    }
-}
-
 /// Tells the cell that a call's act is about.
 fn touch<D: Deed>(graph: &Graph<D>, client: u32, call: InFlight) -> Progress<D>
     requires at { IsAt graph.now client call word.Act }
     requires awaits { awaits call ≡ true }
-    ensures gives { StepGives (told D.kind_of D.index_of D.generation_of D.is_spent D.is_planted D.identity_of D.lives_of) graph.now graph.now client result }
+    ensures gives { StepGives D.facts graph.now graph.now client result }
     ensures legal { IsLegal graph.now.history }
 {
     graph.is_legal();
@@ -98,16 +103,15 @@ fn touch<D: Deed>(graph: &Graph<D>, client: u32, call: InFlight) -> Progress<D>
     }
 }
 
-/// Makes an act that is about no cell, or tells the cell that it is about.
-fn turn<D: Deed>(graph: &mut Graph<D>, client: u32, call: InFlight) -> Progress<D>
-    requires { IsAt graph.old client call word.Act }
-    ensures gives { StepGives (told D.kind_of D.index_of D.generation_of D.is_spent D.is_planted D.identity_of D.lives_of) graph.old graph.new client result }
+/// Makes the next step of a call that acts, where it touches no cell.
+fn go_on<D: Deed>(graph: &mut Graph<D>, client: u32) -> Progress<D>
+    requires { IsGoingOn graph.old client }
+    ensures gives { StepGives D.facts graph.old graph.new client result }
     ensures legal { IsLegal graph.new.history }
 {
-    if role_touches(call.request.role()) {
-        touch(graph, client, call)
-    } else {
-        take_event(graph, client)
+    match graph.next_step(client, None) {
+        None => unreachable!(),
+        Some(done) => graph.go(client, done),
     }
 }
 
@@ -117,18 +121,18 @@ fn turn<D: Deed>(graph: &mut Graph<D>, client: u32, call: InFlight) -> Progress<
 /// call holds it exclusively; the taking of an event with EAGAIN where there is none, or EIO where the device is gone.
 pub fn step<D: Deed>(graph: &mut Graph<D>, client: u32) -> Progress<D>
     requires { IsReady is_act graph.old client }
-    ensures gives { StepGives (told D.kind_of D.index_of D.generation_of D.is_spent D.is_planted D.identity_of D.lives_of) graph.old graph.new client result }
+    ensures gives { StepGives D.facts graph.old graph.new client result }
     ensures legal { IsLegal graph.new.history }
 {
     match graph.call_of(client) {
         None => unreachable!(),
-        Some(call) => match call.next_word() {
-            Word::Look => graph.look_step(client, call),
-            Word::Act => turn(graph, client, call),
-            Word::Abort | Word::Free | Word::Exit => graph.close_step(client, call),
-            Word::Reserve | Word::Make | Word::Commit | Word::Lock | Word::Check | Word::Finish =>
-                unreachable!(),
-        },
+        Some(call) => {
+            if awaits(call) {
+                touch(graph, client, call)
+            } else {
+                go_on(graph, client)
+            }
+        }
     }
 }
 

@@ -6,50 +6,16 @@ ghost use Rattle.uv_machine.specs.declared.entry.Entry.TheVariants as entry;
 ghost use Rattle.uv_machine.specs.declared.entry.Answer.TheVariants as answer;
 ghost use Rattle.uv_machine.specs.States.{call_of};
 ghost use Rattle.uv_machine.specs.Histories.{IsLegal, state_of};
-ghost use Rattle.uv_machine.specs.Outside.{MayAnswer, act_needs_device, needs_device, enter_refusal};
+ghost use Rattle.uv_machine.specs.Outside.{MayAnswer, enter_refusal};
 ghost use Rattle.uv_graph.specs.Kept.{spare_of};
 ghost use Rattle.uv_graph.specs.Notes.{NotesSpared};
 ghost use Rattle.uv_graph.specs.Turns.{IsClient, EnterGives, refusal_without};
 
 use std::alloc::AllocError;
 use uv_graph::Graph;
-use uv_num::{Act, Errno, FILES, Request, Role};
+use uv_machine::enter_refusal;
+use uv_num::{Errno, FILES, Request};
 use uv_pool::Deed;
-
-/// Whether an act serves on a device that is plugged in alone. Events tell that a device went.
-fn act_needs_device(act: Act) -> bool
-    ensures { result ≡ act_needs_device act }
-{
-    match act {
-        Act::Modify { .. } | Act::Query | Act::Bind { .. } | Act::Unbind { .. } => true,
-        Act::Async => false,
-    }
-}
-
-/// Whether a request serves on a device that is plugged in alone. What the removal of a device left may be destroyed.
-fn needs_device(role: Role) -> bool
-    ensures { result ≡ needs_device role }
-{
-    match role {
-        Role::Creates(_) => true,
-        Role::Destroys(_) => false,
-        Role::Acts(act) => act_needs_device(act),
-    }
-}
-
-/// The errno with which a request on a file is refused at its enter, if it is; want of memory aside.
-fn enter_refusal<D: Deed>(graph: &Graph<D>, file: u32, request: Request) -> Option<Errno>
-    ensures { result ≡ enter_refusal (state_of graph.now.history) file request }
-{
-    if !graph.phase_of(file).is_callable() {
-        return Some(Errno::BadF);
-    }
-    if graph.is_unplugged(graph.device_of(file)) && needs_device(request.role()) {
-        Some(Errno::Io)
-    } else {
-        None
-    }
-}
 
 /// Notes that a call is refused at its enter with this errno. Where there is no room for that, it is want of memory.
 fn note_refusal<D: Deed>(

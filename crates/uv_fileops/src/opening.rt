@@ -9,22 +9,9 @@ ghost use Rattle.uv_graph.specs.Turns.{IsClient, OpenGives};
 
 use std::alloc::AllocError;
 use uv_graph::Graph;
+use uv_machine::open_refusal;
 use uv_num::{DEVICES, Errno, FILES};
 use uv_pool::Deed;
-
-/// The errno with which an open of a file on a device is refused, if it is; want of memory aside.
-fn open_refusal<D: Deed>(graph: &Graph<D>, file: u32, device: u32) -> Option<Errno>
-    ensures { result ≡ open_refusal (state_of graph.now.history) file device }
-{
-    if !graph.phase_of(file).is_fresh() {
-        return Some(Errno::Inval);
-    }
-    if graph.is_unplugged(device) {
-        Some(Errno::Io)
-    } else {
-        None
-    }
-}
 
 /// Notes that an open is refused with this errno. Where there is no room for that, it is want of memory.
 fn note_refusal<D: Deed>(

@@ -15,12 +15,13 @@ use Rattle.uv_machine.specs.Histories.{state_of, IsLegal}
 use Rattle.uv_machine.specs.Reached.{IsIn, cell_in}
 use Rattle.uv_graph.specs.declared.out.Out.{Out}
 use Rattle.uv_graph.specs.Begins.{HoldsNone}
-use Rattle.uv_graph.specs.Deeds.{Told}
-use Rattle.uv_graph.specs.Hands.{AreNewPools, IsNewPool, HasNewDeed, IsHomeDeed, HasHomeDeed, AreHomePools, AreOver, is_over}
+use Rattle.uv_pool.specs.Deeds.{DeedFacts}
+use Rattle.uv_pool.specs.Filled.{AreNewPools}
+use Rattle.uv_graph.specs.Hands.{IsHomeDeed, HasHomeDeed, AreHomePools, AreOver, is_over}
 use Rattle.uv_graph.specs.Kept.{Kept, the_out, out_of, kill_of}
 use Rattle.uv_num.specs.declared.identity.Identity.{Identity}
 use Rattle.uv_graph.specs.Lives.{identity_of}
-use Rattle.uv_graph.specs.Logged.{Logged}
+use Rattle.uv_machine.specs.Logged.{Logged}
 use Rattle.uv_graph.specs.Seats.{stands_at, Seat, seat_of, slot_of, deed_in, seat_place, IsPlaced, IsIdle, IsPoolFor, AreHandedOut, IsTied}
 use Rattle.uv_machine.specs.declared.object.Object.{Object}
 use Rattle.uv_machine.specs.States.{phase_of}
@@ -59,7 +60,7 @@ start_objects : start.objects ≡ []
 unfolding start
 start_objects = refl
 
-module _ {D : Type 0} (tell : D → Told) (log : Logged) (k : Kept) (pools : List (Homes D)) (held : List (Option D)) (fresh : log.history ≡ []) (new : AreNewPools tell pools)
+module _ {D : Type 0} (tell : D → DeedFacts) (log : Logged) (k : Kept) (pools : List (Homes D)) (held : List (Option D)) (fresh : log.history ≡ []) (new : AreNewPools tell pools)
     (size : length held ≡ KINDS * CELLS) (none : HoldsNone held) (history : k.history ≡ log.history) (covered : sum k.spares ≤ log.spare)
     (outs_long : length k.outs ≡ ACTOR_PLACES) (kills_long : length k.kills ≡ ACTOR_PLACES) (outs : (c : ℕ) → out_of k c ≡ None) (kills : (c : ℕ) → kill_of k c ≡ None) where
   placed_new : (n i : ℕ) → n < KINDS → i < CELLS → (h : List Entry) → h ≡ [] → IsPlaced k (option_map tell (deed_in (slice_get pools n) i)) (option_map tell (slot_of (slice_get held (seat_place n i)))) n i (seat_of h n i) (seat_of h n i).holder
@@ -125,7 +126,7 @@ over_none : (h : List Entry) → IsLegal h → AreOver (state_of h) → (state_o
 over_none h legal over =
     no_objects (state_of h).objects (λ x k. (let used = (legal_filed h legal).objects x k in let ended = over x.file in cc))
 
-module _ {D : Type 0} (tell : D → Told) (log : Logged) (k : Kept) (pools : List (Homes D)) (held : List (Option D)) (t : IsTied tell log k pools held) (over : AreOver (state_of log.history)) where
+module _ {D : Type 0} (tell : D → DeedFacts) (log : Logged) (k : Kept) (pools : List (Homes D)) (held : List (Option D)) (t : IsTied tell log k pools held) (over : AreOver (state_of log.history)) where
   idle_all : (n i : ℕ) → n < KINDS → i < CELLS → IsIdle (option_map tell (deed_in (slice_get pools n) i)) n i (seat_of log.history n i)
   idle_all n i low low' =
       let free : (seat_of log.history n i).holder ≡ None = ap (λ v. option_map identity_of (find (stands_at n i) v)) (over_none log.history t.legal over) in
@@ -136,7 +137,7 @@ module _ {D : Type 0} (tell : D → Told) (log : Logged) (k : Kept) (pools : Lis
   home_deed n i pool is low low' =
       let idle = idle_all n i low low' in
       let slot = slot_tells tell (deed_at pool i) idle.deed (ap (λ s. option_map tell (deed_in s i)) (sym is) ∙ idle.there) in
-      let P : Told → Type 0 = λ v. IsHomeDeed v n i log.history in
+      let P : DeedFacts → Type 0 = λ v. IsHomeDeed v n i log.history in
       record {
         deed = slot.deed;
         there = slot.is;

@@ -33,10 +33,11 @@ use Rattle.uv_machine.proofs.Members.{Passes-find, Passes-filter, IsIn-map}
 use Rattle.uv_machine.proofs.Holding.{finish_objects}
 use Rattle.uv_machine.proofs.Turns.{IsTurn-allowed}
 use Rattle.uv_graph.specs.declared.out.Out.{Out}
-use Rattle.uv_graph.specs.Deeds.{Told, TellsLives, IsBuried, BehindBy}
+use Rattle.uv_pool.specs.Deeds.{DeedFacts, TellsLives, BehindBy}
+use Rattle.uv_graph.specs.Deeds.{IsBuried}
 use Rattle.uv_graph.specs.Kept.{Kept, out_of, kill_of}
 use Rattle.uv_graph.specs.Lives.{identity_of, is_at, new_by, life_in, lives_in}
-use Rattle.uv_graph.specs.Logged.{Logged}
+use Rattle.uv_machine.specs.Logged.{Logged}
 use Rattle.uv_graph.specs.Seats.{stands_at, holder_of, seat_of, slot_of, deed_in, seat_place, IsPlaced, IsIdle, IsAway, IsFor, IsPoolFor, HasOut, HasKill, IsTied}
 use Rattle.uv_graph.specs.Slots.{put_slot}
 use Rattle.uv_graph.proofs.Finding.{find-map, find-filter, find-none}
@@ -196,7 +197,7 @@ module _ (m : State) (r : Reached m) (c : IsCelled m.pools m.objects) (o : ℕ) 
 
 -- Deeds.
 
-behind_cell : (b : Bool) (cell : Cell) (t : Told) → cell.home ≡ false → BehindBy b t cell.generation
+behind_cell : (b : Bool) (cell : Cell) (t : DeedFacts) → cell.home ≡ false → BehindBy b t cell.generation
     → (t.generation ≡ (if b then cell else record { generation = cell.generation + 1; home = true }).generation) × (t.spent ≡ not (if b then cell else record { generation = cell.generation + 1; home = true }).home)
 behind_cell true cell t out h = (h.0, h.1 ∙ sym (ap not out))
 behind_cell false cell t out h = h
@@ -214,7 +215,7 @@ pool_brought {D} n i d machine (Some p) pool e all =
     subst P (same_Some (brought i d p) pool e)
     (record { kind = was.kind; size = length-set p.deeds i (Some d) ∙ was.size; cells = buried_at i was.cells; is = ap (option_map (buried_at i)) was.is; next = was.next })
 
-module _ {D : Type 0} (tell : D → Told) (log log' : Logged) (k k' : Kept) (pools pools' : List (Homes D)) (held held' : List (Option D)) (t : IsTied tell log k pools held)
+module _ {D : Type 0} (tell : D → DeedFacts) (log log' : Logged) (k k' : Kept) (pools pools' : List (Homes D)) (held held' : List (Option D)) (t : IsTied tell log k pools held)
     (x : Object) (o : ℕ) (there : object_with (state_of log.history) o ≡ Some x) (doomed : is_doomed x.phase ≡ true)
     (d : D) (out : Out) (for : IsFor out x) (deed : IsBuried (tell d) out log.history) where
   stands_x : Standing log.history x
@@ -231,16 +232,16 @@ module _ {D : Type 0} (tell : D → Told) (log log' : Logged) (k k' : Kept) (poo
   none_before (Some v) e = absurd (none-some (tell v) (sym e))
 
   -- a deed of the pool's kind, which is out
-  pub out_of_pool : (kind_of : D → Kind) (index_of : D → ℕ) → kind_of d ≡ (tell d).kind → index_of d ≡ (tell d).index → (pool : Homes D) → slice_get pools (kind_place (tell d).kind) ≡ Some pool → IsOutOf kind_of index_of pool d
-  out_of_pool kind_of index_of kinds indices pool is =
+  pub out_of_pool : (pool : Homes D) → slice_get pools (kind_place (tell d).kind) ≡ Some pool → IsOutOf tell pool d
+  out_of_pool pool is =
       let is_x : slice_get pools (kind_place x.kind) ≡ Some pool = ap (λ v. slice_get pools (kind_place v)) (sym kind_x) ∙ is in
       let was = t.pools_are (kind_place x.kind) pool is_x in
       let parts = placed_parts k _ _ (kind_place x.kind) x.index (seat_of log.history (kind_place x.kind) x.index) (identity_of x) stands_x.holder (t.placed (kind_place x.kind) x.index (kind_within x.kind) stands_x.low) in
       let none : option_map tell (deed_at pool x.index) ≡ None = ap (λ s. option_map tell (deed_in s x.index)) (sym is_x) ∙ parts.0 in
       let empty : deed_at pool x.index ≡ None = none_before (deed_at pool x.index) none in
       record {
-        same_kind = kinds ∙ kind_x ∙ kind_same x.kind pool.kind (sym was.kind);
-        out = ap (λ v. is_out_at pool v) (indices ∙ index_x) ∙ cell_is_out pool x.index stands_x.low empty;
+        same_kind = kind_x ∙ kind_same x.kind pool.kind (sym was.kind);
+        out = ap (λ v. is_out_at pool v) index_x ∙ cell_is_out pool x.index stands_x.low empty;
       }
 
   module _ (e : Entry) (buries : Buries (state_of log.history) (after (state_of log.history) e) x) (none : new_by (state_of log.history) e ≡ None) (more : log'.history ≡ log.history ++ e ∷ [])

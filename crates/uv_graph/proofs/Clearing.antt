@@ -14,14 +14,14 @@ use Rattle.uv_machine.specs.Reached.{IsIn}
 use Rattle.uv_machine.proofs.Calling.{quiet_none, false_unless}
 use Rattle.uv_machine.proofs.Members.{list_any-none}
 use Rattle.uv_machine.proofs.Reaching.{Reached-state_of}
-use Rattle.uv_graph.specs.Deeds.{Told}
+use Rattle.uv_pool.specs.Deeds.{DeedFacts}
 use Rattle.uv_graph.specs.Kept.{Kept, kill_of}
-use Rattle.uv_graph.specs.Logged.{Logged}
+use Rattle.uv_machine.specs.Logged.{Logged}
 use Rattle.uv_graph.specs.Seats.{IsTied}
 use Rattle.uv_graph.proofs.Filing.{same_by}
 use Rattle.uv_graph.proofs.Holders.{object_is}
 
-module _ {D : Type 0} (tell : D → Told) (log : Logged) (k : Kept) (pools : List (Homes D)) (held : List (Option D)) (t : IsTied tell log k pools held)
+module _ {D : Type 0} (tell : D → DeedFacts) (log : Logged) (k : Kept) (pools : List (Homes D)) (held : List (Option D)) (t : IsTied tell log k pools held)
     (by f : ℕ) (tearing : phase_of (state_of log.history) f ≡ file.Tearing by) (quiet : is_quiet (state_of log.history) f ≡ true) (none : kill_of k by ≡ None) where
   none_doomed : (x : Object) → IsIn x (state_of log.history).objects → x.file ≡ f → is_doomed x.phase ≡ true → ⊥
   none_doomed x i same doomed =

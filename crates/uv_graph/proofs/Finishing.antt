@@ -26,10 +26,10 @@ use Rattle.uv_machine.proofs.Turns.{IsTurn-allowed}
 use Rattle.uv_machine.proofs.Reaching.{Reached-state_of}
 use Rattle.uv_machine.proofs.CelledTurns.{legal_celled}
 use Rattle.uv_graph.specs.declared.out.Out.{Out}
-use Rattle.uv_graph.specs.Deeds.{Told}
+use Rattle.uv_pool.specs.Deeds.{DeedFacts}
 use Rattle.uv_graph.specs.Hands.{ComesBuried}
 use Rattle.uv_graph.specs.Kept.{Kept, the_out, put_out, out_of, kill_of}
-use Rattle.uv_graph.specs.Logged.{Logged}
+use Rattle.uv_machine.specs.Logged.{Logged}
 use Rattle.uv_graph.specs.Seats.{seat_place, IsAway, HasOut, HasKill, IsTied}
 use Rattle.uv_graph.specs.Slots.{put_slot}
 use Rattle.uv_graph.proofs.Burying.{finish_buries, gone_buries, out_of_pool, buried_tied}
@@ -62,7 +62,7 @@ finish_doomed h c out w a legal allowed o =
     let held : is_held_at Finish o.item.phase ≡ true = ap (λ (v : Object). is_held_at Finish v.phase) (sym same) ∙ ap (λ v. is_held_at v s.item.phase) (sym word) ∙ s.held in
     made_or_doomed o.item.phase o.phase held
 
-module _ {D : Type 0} (tell : D → Told) (log log' : Logged) (k k' : Kept) (pools pools' : List (Homes D)) (held held' : List (Option D)) (t : IsTied tell log k pools held) (d : D) (o kept : ℕ)
+module _ {D : Type 0} (tell : D → DeedFacts) (log log' : Logged) (k k' : Kept) (pools pools' : List (Homes D)) (held held' : List (Option D)) (t : IsTied tell log k pools held) (d : D) (o kept : ℕ)
     (brings : pools' ≡ at_place pools (kind_place (tell d).kind) (brought (tell d).index d)) (clears : held' ≡ at_place held (seat_place (kind_place (tell d).kind) (tell d).index) (put_slot None))
     (legal : IsLegal log'.history) (history : k'.history ≡ log'.history) (covered : sum k'.spares ≤ log'.spare) where
   module _ (c : ℕ) (allowed : Allowed (state_of log.history) (Step c Finish o None (answer.Kept kept))) (comes : ComesBuried (out_of k c) o (tell d) log.history) where
@@ -155,17 +155,17 @@ module _ {D : Type 0} (tell : D → Told) (log log' : Logged) (k k' : Kept) (poo
           (λ b out is. kill_now log.history log'.history (Gone o kept) b out more (kills_b b out is (case_b b)))
 
 -- the deed that comes back is of its pool, and out
-module _ {D : Type 0} (tell : D → Told) (log : Logged) (k : Kept) (pools : List (Homes D)) (held : List (Option D)) (t : IsTied tell log k pools held) (d : D) (o kept : ℕ) where
+module _ {D : Type 0} (tell : D → DeedFacts) (log : Logged) (k : Kept) (pools : List (Homes D)) (held : List (Option D)) (t : IsTied tell log k pools held) (d : D) (o kept : ℕ) where
   pub finish_out : (c : ℕ) → Allowed (state_of log.history) (Step c Finish o None (answer.Kept kept)) → ComesBuried (out_of k c) o (tell d) log.history
-      → (kind_of : D → Kind) (index_of : D → ℕ) → kind_of d ≡ (tell d).kind → index_of d ≡ (tell d).index → (pool : Homes D) → slice_get pools (kind_place (tell d).kind) ≡ Some pool → IsOutOf kind_of index_of pool d
-  finish_out c allowed comes kind_of index_of kinds indices pool is =
+      → (pool : Homes D) → slice_get pools (kind_place (tell d).kind) ≡ Some pool → IsOutOf tell pool d
+  finish_out c allowed comes pool is =
       let h = t.outs c comes.out comes.is in
       let there : object_with (state_of log.history) o ≡ Some h.item = ap (object_with (state_of log.history)) (sym comes.object) ∙ h.there in
-      out_of_pool tell log log k k pools pools held held t h.item o there (finish_doomed log.history c comes.out o (answer.Kept kept) t.legal allowed h) d comes.out h.same comes.deed kind_of index_of kinds indices pool is
+      out_of_pool tell log log k k pools pools held held t h.item o there (finish_doomed log.history c comes.out o (answer.Kept kept) t.legal allowed h) d comes.out h.same comes.deed pool is
 
   pub gone_out : (by : ℕ) → Allowed (state_of log.history) (Gone o kept) → ComesBuried (kill_of k by) o (tell d) log.history
-      → (kind_of : D → Kind) (index_of : D → ℕ) → kind_of d ≡ (tell d).kind → index_of d ≡ (tell d).index → (pool : Homes D) → slice_get pools (kind_place (tell d).kind) ≡ Some pool → IsOutOf kind_of index_of pool d
-  gone_out by allowed comes kind_of index_of kinds indices pool is =
+      → (pool : Homes D) → slice_get pools (kind_place (tell d).kind) ≡ Some pool → IsOutOf tell pool d
+  gone_out by allowed comes pool is =
       let h = t.kills by comes.out comes.is in
       let there : object_with (state_of log.history) o ≡ Some h.item = ap (object_with (state_of log.history)) (sym comes.object) ∙ h.there in
-      out_of_pool tell log log k k pools pools held held t h.item o there h.phase d comes.out h.same comes.deed kind_of index_of kinds indices pool is
+      out_of_pool tell log log k k pools pools held held t h.item o there h.phase d comes.out h.same comes.deed pool is

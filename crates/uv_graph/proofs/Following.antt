@@ -1,4 +1,4 @@
--- The step that a call makes next, by what its word says, and what the writers' conditions and the answers of a step make of it.
+-- The step that a call makes next, by what its word says: it is the one that the machine allows.
 use Rattle.std.proofs.Common.{◌≡◌, ℕ, ◌≤◌, Bool, true, false, Option, None, Some, refl, ap, sym, subst, ◌∙◌, if◌then◌else◌, arith}
 use Rattle.std.proofs.lemmas.Option.{none-some, same_Some}
 use Rattle.uv_num.specs.declared.errno.Errno.{Errno}
@@ -25,10 +25,7 @@ use Rattle.uv_machine.specs.Acts.{act_refusal, act_answer, found_by}
 use Rattle.uv_machine.specs.Steps.{next_of, next_from, step_of, done_as, fine_answer, step_answer, role_answer, act_told, role_found, found_at, kept_of, told}
 use Rattle.uv_machine.specs.Effects.{refusal_in}
 use Rattle.uv_machine.specs.Histories.{kept_in, Allowed, IsActor, IsNext, state_of}
-use Rattle.uv_graph.specs.Kept.{Kept}
-use Rattle.uv_graph.specs.Notes.{Notes}
-use Rattle.uv_graph.specs.Stepping.{IsAt, Says, is_refusable}
-use Rattle.uv_graph.specs.Turns.{IsClient, IsNextOf, GoesBy, IsRefusedBy, EndsWith, touches_at, goes_plain, is_exit, step_entry}
+use Rattle.uv_graph.specs.Turns.{IsClient, step_entry}
 
 -- A step tells what it found and what it kept, so that it is the same step again where these are given.
 
@@ -158,81 +155,3 @@ step_allowed m c call w t found kept actor is word says =
 
 pub client_acts : (c : ℕ) → IsClient c → IsActor c
 client_acts c i = (i.0, omega (arith, i.1))
-
--- A client's call that is about to make a step.
-
-module _ (k : Kept) (c : ℕ) (call : InFlight) (w : Word) (t : Told) (at : IsAt k c call w) (says : Says k c call w t) where
-  abbrev with_refusal : Option Errno → Done
-  with_refusal r = record { word = w; object = t.object; found = found_at call w None; answer = step_answer (state_of k.history) call None 0 w r }
-
-  next_as : (r : Option Errno) → t.refusal ≡ r → next_of (state_of k.history) c None 0 ≡ Some (with_refusal r)
-  next_as r e = next_is (state_of k.history) c call w t None 0 at.is at.word says ∙ ap (λ v. Some (with_refusal v)) e
-
-  allowed_as : (r : Option Errno) → t.refusal ≡ r → Allowed (state_of k.history) (step_entry c (with_refusal r))
-  allowed_as r e = (client_acts c at.client, IsNext-next_of (state_of k.history) c None 0 (with_refusal r) (next_as r e))
-
-  next_one : (r : Option Errno) → t.refusal ≡ r → touches_at (role_of call.request) w ≡ false → IsNextOf k c (with_refusal r)
-  next_one r e alone = record { call = call; is = at.is; alone = ap (touches_at (role_of call.request)) at.word ∙ alone; next = next_as r e }
-
-  -- a step that meets no refusal
-  pub fine_allowed : t.refusal ≡ None → Allowed (state_of k.history) (Step c w t.object (found_at call w None) (fine_answer (state_of k.history) call None 0 w))
-  fine_allowed fine = allowed_as None fine
-
-  pub fine_next : t.refusal ≡ None → touches_at (role_of call.request) w ≡ false → IsNextOf k c (record { word = w; object = t.object; found = found_at call w None; answer = fine_answer (state_of k.history) call None 0 w })
-  fine_next fine alone = next_one None fine alone
-
-  pub goes : (new : Kept) → t.refusal ≡ None → touches_at (role_of call.request) w ≡ false → refusal_in (fine_answer (state_of k.history) call None 0 w) ≡ None
-      → goes_plain (object_with (state_of k.history) t.object) w ≡ true → Notes k new (Step c w t.object (found_at call w None) (fine_answer (state_of k.history) call None 0 w)) → GoesBy k new c w
-  goes new fine alone clear plain notes = record { done = with_refusal None; next = next_one None fine alone; word = refl; fine = clear; plain = plain; notes = notes }
-
-  -- a step that meets one
-  pub turned_allowed : (e : Errno) → t.refusal ≡ Some e → Allowed (state_of k.history) (Step c w t.object (found_at call w None) (answer.Refused e))
-  turned_allowed e meets = allowed_as (Some e) meets
-
-  pub turned : (new : Kept) (e : Errno) → t.refusal ≡ Some e → touches_at (role_of call.request) w ≡ false → is_exit w ≡ false
-      → Notes k new (Step c w t.object (found_at call w None) (answer.Refused e)) → IsRefusedBy k new c w e
-  turned new e meets alone goes_on notes = record { done = with_refusal (Some e); next = next_one (Some e) meets alone; word = refl; refused = refl; goes_on = goes_on; notes = notes }
-
--- a word that a refusal may meet looks at no state, touches no cell and ends no call
-pub nothing_found : (call : InFlight) (w : Word) → is_refusable w ≡ true → found_at call w None ≡ None
-nothing_found call Reserve e = refl
-nothing_found call Look e = refl
-nothing_found call Make e = refl
-nothing_found call Commit e = refl
-nothing_found call Act e = absurd cc
-nothing_found call Lock e = refl
-nothing_found call Check e = refl
-nothing_found call Finish e = refl
-nothing_found call Abort e = refl
-nothing_found call Free e = refl
-nothing_found call Exit e = refl
-
-pub touches_nothing : (role : Role) (w : Word) → is_refusable w ≡ true → touches_at role w ≡ false
-touches_nothing role Reserve e = refl
-touches_nothing role Look e = refl
-touches_nothing role Make e = refl
-touches_nothing role Commit e = refl
-touches_nothing role Act e = absurd cc
-touches_nothing role Lock e = refl
-touches_nothing role Check e = refl
-touches_nothing role Finish e = refl
-touches_nothing role Abort e = refl
-touches_nothing role Free e = refl
-touches_nothing role Exit e = refl
-
-pub goes_on : (w : Word) → is_refusable w ≡ true → is_exit w ≡ false
-goes_on Reserve e = refl
-goes_on Look e = refl
-goes_on Make e = refl
-goes_on Commit e = refl
-goes_on Act e = refl
-goes_on Lock e = refl
-goes_on Check e = refl
-goes_on Finish e = refl
-goes_on Abort e = refl
-goes_on Free e = refl
-goes_on Exit e = absurd cc
-
--- the end of a call
-pub ends : (k new : Kept) (c : ℕ) (call : InFlight) (t : Told) (at : IsAt k c call Exit) → Says k c call Exit t → t.refusal ≡ None → Notes k new (Step c Exit t.object None (call_answer call)) → EndsWith k new c (call_answer call)
-ends k new c call t at says fine notes = record { done = record { word = Exit; object = t.object; found = None; answer = call_answer call }; next = fine_next k c call Exit t at says fine refl; word = refl; answer_is = refl; notes = notes }

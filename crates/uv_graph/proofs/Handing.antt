@@ -10,9 +10,9 @@ use Rattle.uv_num.proofs.PlaceLaws.{slice_get-at_place_same, slice_get-at_place_
 use Rattle.uv_pool.specs.Homes.{Homes}
 use Rattle.uv_machine.specs.Histories.{state_of, IsLegal}
 use Rattle.uv_graph.specs.declared.out.Out.{Out}
-use Rattle.uv_graph.specs.Deeds.{Told}
+use Rattle.uv_pool.specs.Deeds.{DeedFacts}
 use Rattle.uv_graph.specs.Kept.{Kept, the_out, put_out, out_of, kill_of}
-use Rattle.uv_graph.specs.Logged.{Logged}
+use Rattle.uv_machine.specs.Logged.{Logged}
 use Rattle.uv_graph.specs.Seats.{Seat, seat_of, slot_of, deed_in, seat_place, IsPlaced, IsHeldOrAway, IsAway, IsPoolFor, HasOut, HasKill, AreHandedOut, IsTied}
 use Rattle.uv_graph.specs.Slots.{put_slot}
 
@@ -47,15 +47,15 @@ slot_other held at k new ne = ap slot_of (slice_get-at_place_other held at k (pu
 
 -- One cell changed.
 
-held_by : (k k' : Kept) (q : Option Told) (n i : ℕ) (s : Seat) (holder : Identity) → (IsAway k n i holder.id → IsAway k' n i holder.id) → IsHeldOrAway k q n i s holder → IsHeldOrAway k' q n i s holder
+held_by : (k k' : Kept) (q : Option DeedFacts) (n i : ℕ) (s : Seat) (holder : Identity) → (IsAway k n i holder.id → IsAway k' n i holder.id) → IsHeldOrAway k q n i s holder → IsHeldOrAway k' q n i s holder
 held_by k k' None n i s holder moves h = moves h
 held_by k k' (Some t) n i s holder moves h = h
 
-pub placed_by : (k k' : Kept) (p q : Option Told) (n i : ℕ) (s : Seat) (holder : Option Identity) → ((o : ℕ) → IsAway k n i o → IsAway k' n i o) → IsPlaced k p q n i s holder → IsPlaced k' p q n i s holder
+pub placed_by : (k k' : Kept) (p q : Option DeedFacts) (n i : ℕ) (s : Seat) (holder : Option Identity) → ((o : ℕ) → IsAway k n i o → IsAway k' n i o) → IsPlaced k p q n i s holder → IsPlaced k' p q n i s holder
 placed_by k k' p q n i s None moves h = h
 placed_by k k' p q n i s (Some holder) moves h = (h.0, held_by k k' q n i s holder (moves holder.id) h.1)
 
-module _ {D : Type 0} (tell : D → Told) (log log' : Logged) (k k' : Kept) (pools pools' : List (Homes D)) (held held' : List (Option D)) (n i : ℕ) (t : IsTied tell log k pools held) where
+module _ {D : Type 0} (tell : D → DeedFacts) (log log' : Logged) (k k' : Kept) (pools pools' : List (Homes D)) (held held' : List (Option D)) (n i : ℕ) (t : IsTied tell log k pools held) where
   -- everything at cells other than this one is as it was
   pub record AllBeside : Type 0 where
     pub seats : (a b : ℕ) → (n ≡ a → i ≡ b → ⊥) → seat_of log'.history a b ≡ seat_of log.history a b

@@ -10,14 +10,13 @@ pub mod Following
 pub mod Going
 pub mod Handing
 pub mod Holders
-pub mod Logging
 pub mod MachineLaws
 pub mod Making
-pub mod NewPools
 pub mod OwnApart
 pub mod Planting
 pub mod Resting
 pub mod Seating
 pub mod Spending
+pub mod Stepped
 pub mod Taking
 pub mod Tying

@@ -53,10 +53,11 @@ use Rattle.uv_machine.proofs.Reaching.{Reached-state_of}
 use Rattle.uv_machine.proofs.Turning.{commits_next}
 use Rattle.uv_machine.proofs.Turns.{Made, object_made, IsTurn-allowed}
 use Rattle.uv_graph.specs.declared.out.Out.{Out}
-use Rattle.uv_graph.specs.Deeds.{Told, TellsLives, TellsBefore, IsForNew, out_for}
+use Rattle.uv_pool.specs.Deeds.{DeedFacts, TellsLives, TellsBefore}
+use Rattle.uv_graph.specs.Deeds.{IsForNew, out_for}
 use Rattle.uv_graph.specs.Kept.{Kept, the_out, put_out, out_of, kill_of}
 use Rattle.uv_graph.specs.Lives.{identity_of, life_of, is_at, life_if, life_in, new_by, lives_in}
-use Rattle.uv_graph.specs.Logged.{Logged}
+use Rattle.uv_machine.specs.Logged.{Logged}
 use Rattle.uv_graph.specs.Seats.{stands_at, holder_of, Seat, seat_of, slot_of, deed_in, seat_place, IsPlaced, IsIdle, IsHeldOrAway, IsAway, IsFor, IsPoolFor, is_giving, HasOut, HasKill, AreHandedOut, IsTied}
 use Rattle.uv_graph.specs.Slots.{next_deed, after_draw}
 use Rattle.uv_graph.proofs.Finding.{find-last, find-more_fails, find-none}
@@ -188,7 +189,7 @@ no_stand : (b : Bool) → (b ≡ true → ⊥) → b ≡ false
 no_stand true h = absurd (h refl)
 no_stand false h = refl
 
-before_none : {D : Type 0} (tell : D → Told) (slot : Option D) → option_map tell slot ≡ None → slot ≡ None
+before_none : {D : Type 0} (tell : D → DeedFacts) (slot : Option D) → option_map tell slot ≡ None → slot ≡ None
 before_none tell None e = refl
 before_none tell (Some d) e = absurd (none-some (tell d) (sym e))
 
@@ -197,16 +198,16 @@ told_before None life before now h e = tt
 told_before (Some l) life before now h e = ap (λ v. v ++ life ∷ []) h ∙ sym e
 
 -- the deed in a slot, by what it tells
-pub record SlotTells {D : Type 0} (tell : D → Told) (slot : Option D) (t : Told) : Type 0 where
+pub record SlotTells {D : Type 0} (tell : D → DeedFacts) (slot : Option D) (t : DeedFacts) : Type 0 where
   pub deed : D
   pub is : slot ≡ Some deed
   pub tells : tell deed ≡ t
 
-pub slot_tells : {D : Type 0} (tell : D → Told) (slot : Option D) (t : Told) → option_map tell slot ≡ Some t → SlotTells tell slot t
+pub slot_tells : {D : Type 0} (tell : D → DeedFacts) (slot : Option D) (t : DeedFacts) → option_map tell slot ≡ Some t → SlotTells tell slot t
 slot_tells tell None t e = absurd (none-some t e)
 slot_tells tell (Some d) t e = record { deed = d; is = refl; tells = same_Some (tell d) t e }
 
-module _ {D : Type 0} (tell : D → Told) (spent : D → Bool) (spents : (d : D) → (tell d).spent ≡ spent d) (log log' : Logged) (k k' : Kept) (pools pools' : List (Homes D)) (held : List (Option D))
+module _ {D : Type 0} (tell : D → DeedFacts) (log log' : Logged) (k k' : Kept) (pools pools' : List (Homes D)) (held : List (Option D))
     (t : IsTied tell log k pools held) (c o : ℕ) (allowed : Allowed (state_of log.history) (Step c Make o None answer.Ok)) (none : out_of k c ≡ None)
     (more : log'.history ≡ log.history ++ Step c Make o None answer.Ok ∷ []) where
   abbrev e_now : Entry
@@ -274,40 +275,40 @@ module _ {D : Type 0} (tell : D → Told) (spent : D → Bool) (spents : (d : D)
     -- the deeds that may be drawn are those of the cells that are home
     home_as : (i : ℕ) → i < CELLS → (holder : Option Identity) → (seat_of log.history (kind_place x.kind) i).holder ≡ holder
         → IsPlaced k (option_map tell (deed_at pool_x.item i)) (option_map tell (slot_of (slice_get held (seat_place (kind_place x.kind) i)))) (kind_place x.kind) i (seat_of log.history (kind_place x.kind) i) holder
-        → (cell : Cell) → slice_get it.pool.cells i ≡ Some cell → cell.home ≡ homes.is_home spent (deed_at pool_x.item i)
+        → (cell : Cell) → slice_get it.pool.cells i ≡ Some cell → cell.home ≡ homes.is_home tell (deed_at pool_x.item i)
     home_as i low None e placed cell at =
         let idle = placed.0 in
         let slot = slot_tells tell (deed_at pool_x.item i) idle.deed idle.there in
         let same : cell ≡ idle.idle.cell = same_Some cell idle.idle.cell (sym at ∙ ap (λ s. cell_in s i) (sym it.pool_is) ∙ idle.idle.at.is) in
-        ap (λ (v : Cell). v.home) same ∙ not_twice idle.idle.cell.home ∙ ap not (sym idle.idle.spent ∙ ap (λ (v : Told). v.spent) (sym slot.tells) ∙ spents slot.deed) ∙ ap (homes.is_home spent) (sym slot.is)
+        ap (λ (v : Cell). v.home) same ∙ not_twice idle.idle.cell.home ∙ ap not (sym idle.idle.spent ∙ ap (λ (v : DeedFacts). v.spent) (sym slot.tells)) ∙ ap (homes.is_home tell) (sym slot.is)
     home_as i low (Some holder) e placed cell at =
         let h = holds_it (state_of log.history) (kind_place x.kind) i holder e in
         let has = c_m.has h.item h.within h.stands.standing in
         let there : Some cell ≡ Some has.cell = sym at ∙ ap (λ s. cell_in s i) (sym it.pool_is) ∙ ap (λ v. cell_in (slice_get (state_of log.history).pools v) i) (sym h.stands.kind) ∙ ap (cell_in (slice_get (state_of log.history).pools (kind_place h.item.kind))) (sym h.stands.index) ∙ has.is in
-        ap (λ (v : Cell). v.home) (same_Some cell has.cell there) ∙ has.out ∙ sym (ap (homes.is_home spent) (before_none tell (deed_at pool_x.item i) placed.0))
+        ap (λ (v : Cell). v.home) (same_Some cell has.cell there) ∙ has.out ∙ sym (ap (homes.is_home tell) (before_none tell (deed_at pool_x.item i) placed.0))
 
-    drawn_place : home_place spent pool_x.item ≡ Some x.index
+    drawn_place : home_place tell pool_x.item ≡ Some x.index
     drawn_place =
         let long = c_m.cells (kind_place x.kind) it.pool it.pool_is in
         let size = was_x.size in
         let nothing : Cell = record { generation = 0; home = false } in
-        let agree : map is_home it.pool.cells ≡ map (homes.is_home spent) pool_x.item.deeds =
-        map_same is_home (homes.is_home spent) it.pool.cells pool_x.item.deeds nothing None (omega (arith, long, size))
+        let agree : map is_home it.pool.cells ≡ map (homes.is_home tell) pool_x.item.deeds =
+        map_same is_home (homes.is_home tell) it.pool.cells pool_x.item.deeds nothing None (omega (arith, long, size))
         (λ i low. home_as i (omega (arith, long, low)) (seat_of log.history (kind_place x.kind) i).holder refl
         (let P : Option (Homes D) → Type 0 = λ s. IsPlaced k (option_map tell (deed_in s i)) (option_map tell (slot_of (slice_get held (seat_place (kind_place x.kind) i)))) (kind_place x.kind) i (seat_of log.history (kind_place x.kind) i) (seat_of log.history (kind_place x.kind) i).holder in
         subst P pool_x.is (t.placed (kind_place x.kind) i (kind_within x.kind) (omega (arith, long, low))))
         (get_or it.pool.cells i nothing) (slice_get-get_or it.pool.cells i nothing low)) in
         let next : pool_x.item.next ≡ it.pool.next = was_x.next ∙ ap (λ (v : Pool). v.next) cells_same in
-        sym (home_place_by spent pool_x.item is_home it.pool.cells agree)
+        sym (home_place_by tell pool_x.item is_home it.pool.cells agree)
         ∙ ap (λ n. option_or (option_map (λ i. n + i) (position is_home (drop n it.pool.cells))) (position is_home (take n it.pool.cells))) next
         ∙ sym (either_first (option_map (λ i. it.pool.next + i) (position is_home (drop it.pool.next it.pool.cells))) (position is_home (take it.pool.next it.pool.cells)))
         ∙ it.home
 
-    drawn_is : next_deed spent (slice_get pools (kind_place x.kind)) ≡ deed_in (slice_get pools (kind_place x.kind)) x.index
-    drawn_is = ap (next_deed spent) pool_x.is ∙ ap (deed_at_if pool_x.item) drawn_place ∙ sym (ap (λ s. deed_in s x.index) pool_x.is)
+    drawn_is : next_deed tell (slice_get pools (kind_place x.kind)) ≡ deed_in (slice_get pools (kind_place x.kind)) x.index
+    drawn_is = ap (next_deed tell) pool_x.is ∙ ap (deed_at_if pool_x.item) drawn_place ∙ sym (ap (λ s. deed_in s x.index) pool_x.is)
 
     -- there is a deed to draw
-    pub drawn_some : next_deed spent (slice_get pools (kind_place x.kind)) ≡ None → ⊥
+    pub drawn_some : next_deed tell (slice_get pools (kind_place x.kind)) ≡ None → ⊥
     drawn_some empty =
         none-some idle_before.0.deed (sym (ap (option_map tell) (sym drawn_is ∙ empty)) ∙ idle_before.0.there)
 
@@ -318,12 +319,12 @@ module _ {D : Type 0} (tell : D → Told) (spent : D → Bool) (spents : (d : D)
         ∙ ap (λ b. lives_in log.history (kind_place x.kind) x.index ++ life_if b x) (both_true (eq-eqb (kind_place x.kind) (kind_place x.kind) refl) (eq-eqb x.index x.index refl))
 
     -- and it is the new object's
-    pub drawn_for : (d : D) → Some d ≡ next_deed spent (slice_get pools (kind_place x.kind)) → IsForNew (tell d) x log'.history
+    pub drawn_for : (d : D) → Some d ≡ next_deed tell (slice_get pools (kind_place x.kind)) → IsForNew (tell d) x log'.history
     drawn_for d is =
         let idle = idle_before.0 in
         let same : tell d ≡ idle.deed = same_Some (tell d) idle.deed (ap (option_map tell) (is ∙ drawn_is) ∙ idle.there) in
         let cells : idle.idle.cell ≡ home_x.cell = same_Some idle.idle.cell home_x.cell (sym idle.idle.at.is ∙ cell_x) in
-        let P : Told → Type 0 = λ v. IsForNew v x log'.history in
+        let P : DeedFacts → Type 0 = λ v. IsForNew v x log'.history in
         subst P (sym same)
         (record {
           kind = kind_same idle.deed.kind x.kind idle.idle.at.kind;
@@ -370,7 +371,7 @@ module _ {D : Type 0} (tell : D → Told) (spent : D → Bool) (spents : (d : D)
         ap (λ v. holder_of v (kind_place x.kind) x.index) objects_m
         ∙ ap (option_map identity_of) (find-last (stands_at (kind_place x.kind) x.index) x (state_of log.history).objects (stands_true x made_stand) (find-none (stands_at (kind_place x.kind) x.index) (state_of log.history).objects none_held))
 
-    module _ (draws : pools' ≡ at_place pools (kind_place x.kind) (after_draw spent)) (outs : k'.outs ≡ at_place k.outs c (put_out (Some (out_for x)))) (kills : k'.kills ≡ k.kills)
+    module _ (draws : pools' ≡ at_place pools (kind_place x.kind) (after_draw tell)) (outs : k'.outs ≡ at_place k.outs c (put_out (Some (out_for x)))) (kills : k'.kills ≡ k.kills)
         (legal : IsLegal log'.history) (history : k'.history ≡ log'.history) (covered : sum k'.spares ≤ log'.spare) where
       slot_c : HasAt k.outs c
       slot_c = actor_place c k.outs allowed.0 t.outs_size
@@ -404,16 +405,16 @@ module _ {D : Type 0} (tell : D → Told) (spent : D → Bool) (spents : (d : D)
       outs_c a out is (IsThat other now) = HasOut-after (state_of log.history) e_now a out r_m allowed (ne_eqb c a other) (t.outs a out (sym now ∙ is))
 
       -- the pool that gave its deed
-      draws_now : pools' ≡ at_place pools (kind_place x.kind) (after_draw spent)
+      draws_now : pools' ≡ at_place pools (kind_place x.kind) (after_draw tell)
       draws_now = draws
 
       drawn_pool : slice_get pools' (kind_place x.kind) ≡ Some (homes.drawn x.index pool_x.item)
       drawn_pool =
-          ap (λ v. slice_get v (kind_place x.kind)) draws ∙ slice_get-at_place_same pools (kind_place x.kind) (after_draw spent) ∙ ap (option_map (after_draw spent)) pool_x.is
+          ap (λ v. slice_get v (kind_place x.kind)) draws ∙ slice_get-at_place_same pools (kind_place x.kind) (after_draw tell) ∙ ap (option_map (after_draw tell)) pool_x.is
           ∙ ap (λ v. Some (drawn_if v pool_x.item)) drawn_place
 
       other_pool : (a : ℕ) → kind_place x.kind ≢ a → slice_get pools' a ≡ slice_get pools a
-      other_pool a ne = ap (λ v. slice_get v a) draws ∙ slice_get-at_place_other pools (kind_place x.kind) a (after_draw spent) (λ e. ne (sym e))
+      other_pool a ne = ap (λ v. slice_get v a) draws ∙ slice_get-at_place_other pools (kind_place x.kind) a (after_draw tell) (λ e. ne (sym e))
 
       pooled_beside : (a b : ℕ) → (kind_place x.kind ≡ a → x.index ≡ b → ⊥) → deed_in (slice_get pools' a) b ≡ deed_in (slice_get pools a) b
       pooled_beside a b apart =
@@ -465,7 +466,7 @@ module _ {D : Type 0} (tell : D → Told) (spent : D → Bool) (spents : (d : D)
             away = λ i j o' apart w. moves_c i j o' w;
           })
           (placed_some k' _ _ a b (seat_of log'.history a b) (identity_of x) holder_now empty (subst P (sym gone) away_c))
-          history legal covered refl (ap (λ v. length v) draws ∙ length-at_place pools a (after_draw spent)) (ap (λ v. length v) outs ∙ length-at_place k.outs c (put_out (Some (out_for x)))) (ap (λ v. length v) kills)
+          history legal covered refl (ap (λ v. length v) draws ∙ length-at_place pools a (after_draw tell)) (ap (λ v. length v) outs ∙ length-at_place k.outs c (put_out (Some (out_for x)))) (ap (λ v. length v) kills)
           pools_are_m
           (λ i out is. out_now log.history log'.history e_now i out more (outs_c i out is (case_c i)))
           (λ i out is. kill_now log.history log'.history e_now i out more (HasKill-after (state_of log.history) e_now i out r_m allowed refl (t.kills i out (sym (ap (λ v. the_out (slice_get v i)) kills) ∙ is))))

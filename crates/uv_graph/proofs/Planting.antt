@@ -23,11 +23,12 @@ use Rattle.uv_machine.proofs.Members.{Passes-find}
 use Rattle.uv_machine.proofs.Reaching.{Reached-state_of}
 use Rattle.uv_machine.proofs.CelledTurns.{legal_celled}
 use Rattle.uv_graph.specs.declared.out.Out.{Out}
-use Rattle.uv_graph.specs.Deeds.{Told, TellsLives, IsPlantedFor}
+use Rattle.uv_pool.specs.Deeds.{DeedFacts, TellsLives}
+use Rattle.uv_graph.specs.Deeds.{IsPlantedFor}
 use Rattle.uv_graph.specs.Hands.{ComesPlanted}
 use Rattle.uv_graph.specs.Kept.{Kept, the_out, put_out, out_of, kill_of}
 use Rattle.uv_graph.specs.Lives.{identity_of, lives_in}
-use Rattle.uv_graph.specs.Logged.{Logged}
+use Rattle.uv_machine.specs.Logged.{Logged}
 use Rattle.uv_graph.specs.Notes.{Leaves}
 use Rattle.uv_graph.specs.Seats.{Seat, seat_of, slot_of, deed_in, seat_place, IsPlaced, IsHeldOrAway, IsHeldDeed, IsDeedAt, IsAway, IsFor, IsPoolFor, HasOut, HasKill, IsTied}
 use Rattle.uv_graph.specs.Slots.{put_slot}
@@ -56,10 +57,10 @@ pub slot_out : (slot : Option (Option Out)) (out : Out) → the_out slot ≡ Som
 slot_out None out e = absurd (none-some out e)
 slot_out (Some s) out e = ap (λ (v : Option Out). Some v) e
 
-pub placed_parts : (k : Kept) (p q : Option Told) (n i : ℕ) (s : Seat) (holder : Identity) → s.holder ≡ Some holder → IsPlaced k p q n i s s.holder → (p ≡ None) × IsHeldOrAway k q n i s holder
+pub placed_parts : (k : Kept) (p q : Option DeedFacts) (n i : ℕ) (s : Seat) (holder : Identity) → s.holder ≡ Some holder → IsPlaced k p q n i s s.holder → (p ≡ None) × IsHeldOrAway k q n i s holder
 placed_parts k p q n i s holder e h = let P : Option Identity → Type 0 = λ v. IsPlaced k p q n i s v in subst P e h
 
-pub placed_some : (k : Kept) (p q : Option Told) (n i : ℕ) (s : Seat) (holder : Identity) → s.holder ≡ Some holder → p ≡ None → IsHeldOrAway k q n i s holder → IsPlaced k p q n i s s.holder
+pub placed_some : (k : Kept) (p q : Option DeedFacts) (n i : ℕ) (s : Seat) (holder : Identity) → s.holder ≡ Some holder → p ≡ None → IsHeldOrAway k q n i s holder → IsPlaced k p q n i s s.holder
 placed_some k p q n i s holder e none h = let P : Option Identity → Type 0 = λ v. IsPlaced k p q n i s v in subst P (sym e) (none, h)
 
 -- an object that stands, with what is known of its cell
@@ -94,7 +95,7 @@ standing_at h o x legal there stands =
 pub seat_low : (x : Object) → x.index < CELLS → seat_place (kind_place x.kind) x.index < KINDS * CELLS
 seat_low x low = let kinds = kind_within x.kind in omega (arith, low, kinds)
 
-module _ {D : Type 0} (tell : D → Told) (log : Logged) (k : Kept) (pools : List (Homes D)) (held : List (Option D)) (t : IsTied tell log k pools held) where
+module _ {D : Type 0} (tell : D → DeedFacts) (log : Logged) (k : Kept) (pools : List (Homes D)) (held : List (Option D)) (t : IsTied tell log k pools held) where
   pub held_there : (x : Object) → x.index < CELLS → HasAt held (seat_place (kind_place x.kind) x.index)
   held_there x low = has_at held (seat_place (kind_place x.kind) x.index) (let l = seat_low x low in omega (arith, l, t.seats))
 

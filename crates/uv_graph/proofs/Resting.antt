@@ -22,9 +22,9 @@ use Rattle.uv_machine.proofs.Owning.{legal_own_stands}
 use Rattle.uv_machine.proofs.Planned.{in_plan}
 use Rattle.uv_machine.proofs.Reaching.{Reached-state_of}
 use Rattle.uv_graph.specs.declared.out.Out.{Out}
-use Rattle.uv_graph.specs.Deeds.{Told}
+use Rattle.uv_pool.specs.Deeds.{DeedFacts}
 use Rattle.uv_graph.specs.Kept.{Kept, out_of, kill_of}
-use Rattle.uv_graph.specs.Logged.{Logged}
+use Rattle.uv_machine.specs.Logged.{Logged}
 use Rattle.uv_graph.specs.Seats.{IsTied}
 use Rattle.uv_graph.specs.Turns.{is_husk_object}
 use Rattle.uv_graph.proofs.Holders.{object_is}
@@ -66,7 +66,7 @@ husk_by phase.Husk e h = refl
 
 -- A call without a deed out that is about to finish: the deed of a doomed object is in an actor's hands, which would be a call that
 -- holds the object beside this one, or a teardown of the file while this call is in flight.
-module _ {D : Type 0} (tell : D → Told) (log : Logged) (k : Kept) (pools : List (Homes D)) (held : List (Option D)) (t : IsTied tell log k pools held)
+module _ {D : Type 0} (tell : D → DeedFacts) (log : Logged) (k : Kept) (pools : List (Homes D)) (held : List (Option D)) (t : IsTied tell log k pools held)
     (c : ℕ) (call : InFlight) (is : call_of (state_of log.history) c ≡ Some call) (word : next_word call ≡ Finish) (none : out_of k c ≡ None) where
   not_in_call : (own : IsOwn (state_of log.history) Finish (own_object call)) (b : ℕ) (out : Out) → out_of k b ≡ Some out → out.object ≡ own.item.id → ⊥
   not_in_call own b out e object =

@@ -45,10 +45,11 @@ use Rattle.uv_machine.proofs.Turning.{finishes_next}
 use Rattle.uv_machine.proofs.Turns.{IsTurn-allowed}
 use Rattle.uv_machine.proofs.Reaching.{Reached-state_of}
 use Rattle.uv_graph.specs.declared.out.Out.{Out}
-use Rattle.uv_graph.specs.Deeds.{Told, TellsLives, IsPlantedFor, out_for}
+use Rattle.uv_pool.specs.Deeds.{DeedFacts, TellsLives}
+use Rattle.uv_graph.specs.Deeds.{IsPlantedFor, out_for}
 use Rattle.uv_graph.specs.Kept.{Kept, the_out, put_out, out_of, kill_of}
 use Rattle.uv_graph.specs.Lives.{identity_of, lives_in}
-use Rattle.uv_graph.specs.Logged.{Logged}
+use Rattle.uv_machine.specs.Logged.{Logged}
 use Rattle.uv_graph.specs.Notes.{Leaves}
 use Rattle.uv_graph.specs.Owns.{is_torn_by, torn_by_object}
 use Rattle.uv_graph.specs.Seats.{Seat, seat_of, slot_of, deed_in, seat_place, IsPlaced, IsHeldOrAway, IsHeldDeed, IsDeedAt, IsAway, IsFor, IsPoolFor, is_giving, HasOut, HasKill, AreHandedOut, IsTied}
@@ -67,11 +68,11 @@ use Rattle.uv_graph.proofs.Seating.{seats_after}
 use Rattle.uv_graph.proofs.Tying.{seat_stays, not_releases, out_now, kill_now}
 
 -- the planted deed at a place
-abbrev pub HeldSlot : {D : Type 0} → (D → Told) → Option D → ℕ → ℕ → Seat → Identity → Type 0
+abbrev pub HeldSlot : {D : Type 0} → (D → DeedFacts) → Option D → ℕ → ℕ → Seat → Identity → Type 0
 HeldSlot tell None n i s holder = ⊥
 HeldSlot tell (Some d) n i s holder = IsHeldDeed (tell d) n i s holder
 
-module _ {D : Type 0} (tell : D → Told) (log : Logged) (k : Kept) (pools : List (Homes D)) (held : List (Option D)) (t : IsTied tell log k pools held)
+module _ {D : Type 0} (tell : D → DeedFacts) (log : Logged) (k : Kept) (pools : List (Homes D)) (held : List (Option D)) (t : IsTied tell log k pools held)
     (x : Object) (o : ℕ) (there : object_with (state_of log.history) o ≡ Some x) (live : is_live x.phase ≡ true) where
   stands : Standing log.history x
   stands = standing_at log.history o x t.legal there (live_stands x.phase live)
@@ -257,7 +258,7 @@ still_kill k k' by actor out new e (IsThat other now) apart = inr (now ∙ e)
 pub actor_place : (c : ℕ) (outs : List (Option Out)) → IsActor c → length outs ≡ ACTOR_PLACES → HasAt outs c
 actor_place c outs actor long = has_at outs c (omega (arith, actor.1, long))
 
-module _ {D : Type 0} (tell : D → Told) (log log' : Logged) (k k' : Kept) (pools : List (Homes D)) (held held' : List (Option D)) (t : IsTied tell log k pools held)
+module _ {D : Type 0} (tell : D → DeedFacts) (log log' : Logged) (k k' : Kept) (pools : List (Homes D)) (held held' : List (Option D)) (t : IsTied tell log k pools held)
     (x : Object) (o : ℕ) (there : object_with (state_of log.history) o ≡ Some x) (live : is_live x.phase ≡ true)
     (takes : held' ≡ at_place held (seat_place (kind_place x.kind) x.index) (put_slot None))
     (legal : IsLegal log'.history) (history : k'.history ≡ log'.history) (covered : sum k'.spares ≤ log'.spare) where

@@ -20,11 +20,11 @@ use Rattle.uv_machine.specs.Reached.{cell_in}
 use Rattle.uv_machine.specs.Laws.{is_of}
 use Rattle.uv_machine.proofs.Reaching.{Reached-state_of}
 use Rattle.uv_graph.specs.declared.out.Out.{Out}
-use Rattle.uv_graph.specs.Deeds.{Told}
+use Rattle.uv_pool.specs.Deeds.{DeedFacts}
 use Rattle.uv_graph.specs.Dooms.{DoomsNone}
 use Rattle.uv_graph.specs.Kept.{Kept, the_out, out_of, kill_of}
 use Rattle.uv_graph.specs.Lives.{made_by, step_made, new_by, life_in, lives_from, lives_in}
-use Rattle.uv_graph.specs.Logged.{Logged}
+use Rattle.uv_machine.specs.Logged.{Logged}
 use Rattle.uv_graph.specs.Notes.{Leaves, WordLeaves, HasNoneOut}
 use Rattle.uv_graph.specs.Seats.{Seat, seat_in, seat_of, slot_of, deed_in, seat_place, IsPlaced, IsHeldOrAway, IsAway, IsPoolFor, HasOut, HasKill, AreHandedOut, IsTied}
 use Rattle.uv_graph.proofs.Domains.{legal_domains}
@@ -138,11 +138,11 @@ away_as k k' n i o outs kills a = record {
   object = a.object;
 }
 
-held_as : (k k' : Kept) (q : Option Told) (n i : ℕ) (s : Seat) (holder : Identity) → k'.outs ≡ k.outs → k'.kills ≡ k.kills → IsHeldOrAway k q n i s holder → IsHeldOrAway k' q n i s holder
+held_as : (k k' : Kept) (q : Option DeedFacts) (n i : ℕ) (s : Seat) (holder : Identity) → k'.outs ≡ k.outs → k'.kills ≡ k.kills → IsHeldOrAway k q n i s holder → IsHeldOrAway k' q n i s holder
 held_as k k' None n i s holder outs kills h = away_as k k' n i holder.id outs kills h
 held_as k k' (Some t) n i s holder outs kills h = h
 
-placed_as : (k k' : Kept) (p q : Option Told) (n i : ℕ) (s : Seat) (holder : Option Identity) → k'.outs ≡ k.outs → k'.kills ≡ k.kills → IsPlaced k p q n i s holder → IsPlaced k' p q n i s holder
+placed_as : (k k' : Kept) (p q : Option DeedFacts) (n i : ℕ) (s : Seat) (holder : Option Identity) → k'.outs ≡ k.outs → k'.kills ≡ k.kills → IsPlaced k p q n i s holder → IsPlaced k' p q n i s holder
 placed_as k k' p q n i s None outs kills h = h
 placed_as k k' p q n i s (Some holder) outs kills h = (h.0, held_as k k' q n i s holder outs kills h.1)
 
@@ -153,7 +153,7 @@ pub kill_now : (h g : List Entry) (e : Entry) (c : ℕ) (out : Out) → g ≡ h 
 kill_now h g e c out more o = let P : State → Type 0 = λ s. HasKill s c out in subst P (sym (ap state_of more ∙ state_goes_on h e)) o
 
 -- with another log and other room set aside, the deeds and what is out being as they were
-pub tied_more : {D : Type 0} (tell : D → Told) (log log' : Logged) (k k' : Kept) (pools : List (Homes D)) (held : List (Option D)) (e : Entry)
+pub tied_more : {D : Type 0} (tell : D → DeedFacts) (log log' : Logged) (k k' : Kept) (pools : List (Homes D)) (held : List (Option D)) (e : Entry)
     → IsTied tell log k pools held → Allowed (state_of log.history) e → Leaves (state_of log.history) e → HasNoneOut k e → DoomsNone (state_of log.history) e
     → log'.history ≡ log.history ++ e ∷ [] → IsLegal log'.history → k'.history ≡ log'.history → k'.outs ≡ k.outs → k'.kills ≡ k.kills → sum k'.spares ≤ log'.spare
     → IsTied tell log' k' pools held
@@ -189,7 +189,7 @@ tied_more {D} tell log log' k k' pools held e t allowed leaves none dooms more l
     }
 
 -- room that was widened
-pub tied_wider : {D : Type 0} (tell : D → Told) (log log' : Logged) (k k' : Kept) (pools : List (Homes D)) (held : List (Option D))
+pub tied_wider : {D : Type 0} (tell : D → DeedFacts) (log log' : Logged) (k k' : Kept) (pools : List (Homes D)) (held : List (Option D))
     → IsTied tell log k pools held → log'.history ≡ log.history → log.spare ≤ log'.spare → k'.history ≡ log'.history → k'.spares ≡ k.spares → k'.outs ≡ k.outs → k'.kills ≡ k.kills
     → IsTied tell log' k' pools held
 tied_wider {D} tell log log' k k' pools held t same wider history spares outs kills =

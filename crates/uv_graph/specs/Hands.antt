@@ -15,12 +15,13 @@ use Rattle.uv_machine.specs.Histories.{state_of}
 use Rattle.uv_machine.specs.Reached.{cell_in}
 use Rattle.uv_graph.specs.declared.out.Out.{Out}
 use Rattle.uv_graph.specs.Kept.{Kept, out_of}
-use Rattle.uv_graph.specs.Deeds.{Told, TellsLives, out_for, IsForNew, IsPlantedFor, IsBuried}
+use Rattle.uv_pool.specs.Deeds.{DeedFacts, TellsLives}
+use Rattle.uv_graph.specs.Deeds.{out_for, IsForNew, IsPlantedFor, IsBuried}
 use Rattle.uv_graph.specs.Lives.{lives_in}
 use Rattle.uv_graph.specs.Notes.{NotesOut, NotesKill}
 
 -- a make: the deed of the new object's cell went out to the client
-pub record HandsNew (old new : Kept) (e : Entry) (client o : ℕ) (t : Told) : Type 0 where
+pub record HandsNew (old new : Kept) (e : Entry) (client o : ℕ) (t : DeedFacts) : Type 0 where
   pub item : Object
   pub there : object_with (state_of new.history) o ≡ Some item
   pub made : is_made item.phase ≡ true
@@ -28,7 +29,7 @@ pub record HandsNew (old new : Kept) (e : Entry) (client o : ℕ) (t : Told) : T
   pub deed : IsForNew t item new.history
 
 -- a check of a live object: its deed went out to the client
-pub record HandsPlanted (old new : Kept) (e : Entry) (client o : ℕ) (t : Told) : Type 0 where
+pub record HandsPlanted (old new : Kept) (e : Entry) (client o : ℕ) (t : DeedFacts) : Type 0 where
   pub item : Object
   pub there : object_with (state_of old.history) o ≡ Some item
   pub live : is_live item.phase ≡ true
@@ -36,7 +37,7 @@ pub record HandsPlanted (old new : Kept) (e : Entry) (client o : ℕ) (t : Told)
   pub deed : IsPlantedFor t item new.history
 
 -- a kill: the object's deed went out to who tears its file down
-pub record HandsKilled (old new : Kept) (e : Entry) (actor o : ℕ) (t : Told) : Type 0 where
+pub record HandsKilled (old new : Kept) (e : Entry) (actor o : ℕ) (t : DeedFacts) : Type 0 where
   pub item : Object
   pub there : object_with (state_of old.history) o ≡ Some item
   pub live : is_live item.phase ≡ true
@@ -44,7 +45,7 @@ pub record HandsKilled (old new : Kept) (e : Entry) (actor o : ℕ) (t : Told) :
   pub deed : IsPlantedFor t item new.history
 
 -- the deed that the client's call has out comes back, planted for the call's new object
-pub record ComesPlanted (k : Kept) (client : ℕ) (t : Told) : Type 0 where
+pub record ComesPlanted (k : Kept) (client : ℕ) (t : DeedFacts) : Type 0 where
   pub out : Out
   pub is : out_of k client ≡ Some out
   pub item : Object
@@ -53,7 +54,7 @@ pub record ComesPlanted (k : Kept) (client : ℕ) (t : Told) : Type 0 where
   pub deed : IsPlantedFor t item k.history
 
 -- the deed that this hand has out for the object comes back buried
-pub record ComesBuried (hand : Option Out) (o : ℕ) (t : Told) (h : List Entry) : Type 0 where
+pub record ComesBuried (hand : Option Out) (o : ℕ) (t : DeedFacts) (h : List Entry) : Type 0 where
   pub out : Out
   pub is : hand ≡ Some out
   pub object : out.object ≡ o
@@ -64,36 +65,10 @@ abbrev pub is_live_object : Option Object → Bool
 is_live_object None = false
 is_live_object (Some x) = is_live x.phase
 
--- Pools at the beginning and at the end.
-
--- a deed that was never planted
-pub record IsNewDeed (t : Told) (k i : ℕ) : Type 0 where
-  pub kind : kind_place t.kind ≡ k
-  pub index : t.index ≡ i
-  pub generation : t.generation ≡ 0
-  pub planted : t.planted ≡ false
-  pub spent : t.spent ≡ false
-  pub lives : TellsLives t.lives []
-
-pub record HasNewDeed {D : Type 0} (tell : D → Told) (pool : Homes D) (k i : ℕ) : Type 0 where
-  pub deed : D
-  pub there : deed_at pool i ≡ Some deed
-  pub new : IsNewDeed (tell deed) k i
-
--- a full pool of the kind in this place, drawn from by none
-pub record IsNewPool {D : Type 0} (tell : D → Told) (k : ℕ) (pool : Homes D) : Type 0 where
-  pub kind : kind_place pool.kind ≡ k
-  pub size : length pool.deeds ≡ CELLS
-  pub next : pool.next ≡ 0
-  pub deeds : (i : ℕ) → i < CELLS → HasNewDeed tell pool k i
-
--- full pools of all kinds, in the order of the kinds
-pub record AreNewPools {D : Type 0} (tell : D → Told) (pools : List (Homes D)) : Type 0 where
-  pub count : length pools ≡ KINDS
-  pub each : (k : ℕ) (pool : Homes D) → slice_get pools k ≡ Some pool → IsNewPool tell k pool
+-- Pools at the end.
 
 -- a deed that came home, with the generation and the lives that the history says
-pub record IsHomeDeed (t : Told) (k i : ℕ) (h : List Entry) : Type 0 where
+pub record IsHomeDeed (t : DeedFacts) (k i : ℕ) (h : List Entry) : Type 0 where
   pub cell : Cell
   pub is : cell_in (slice_get (state_of h).pools k) i ≡ Some cell
   pub kind : kind_place t.kind ≡ k
@@ -102,17 +77,17 @@ pub record IsHomeDeed (t : Told) (k i : ℕ) (h : List Entry) : Type 0 where
   pub planted : t.planted ≡ false
   pub lives : TellsLives t.lives (lives_in h k i)
 
-pub record HasHomeDeed {D : Type 0} (tell : D → Told) (pool : Homes D) (k i : ℕ) (h : List Entry) : Type 0 where
+pub record HasHomeDeed {D : Type 0} (tell : D → DeedFacts) (pool : Homes D) (k i : ℕ) (h : List Entry) : Type 0 where
   pub deed : D
   pub there : deed_at pool i ≡ Some deed
   pub home : IsHomeDeed (tell deed) k i h
 
-pub record IsHomePool {D : Type 0} (tell : D → Told) (k : ℕ) (pool : Homes D) (h : List Entry) : Type 0 where
+pub record IsHomePool {D : Type 0} (tell : D → DeedFacts) (k : ℕ) (pool : Homes D) (h : List Entry) : Type 0 where
   pub kind : kind_place pool.kind ≡ k
   pub deeds : (i : ℕ) → i < CELLS → HasHomeDeed tell pool k i h
 
 -- the pools of all kinds, in the order of the kinds, with all their deeds
-pub record AreHomePools {D : Type 0} (tell : D → Told) (pools : List (Homes D)) (h : List Entry) : Type 0 where
+pub record AreHomePools {D : Type 0} (tell : D → DeedFacts) (pools : List (Homes D)) (h : List Entry) : Type 0 where
   pub count : length pools ≡ KINDS
   pub each : (k : ℕ) (pool : Homes D) → slice_get pools k ≡ Some pool → IsHomePool tell k pool h
 

@@ -5,7 +5,6 @@ pub mod Dooms
 pub mod Hands
 pub mod Kept
 pub mod Lives
-pub mod Logged
 pub mod Notes
 pub mod Owns
 pub mod Seats

@@ -21,10 +21,10 @@ use Rattle.uv_machine.specs.States.{call_of, object_with, phase_of, is_quiet}
 use Rattle.uv_machine.specs.Histories.{state_of, IsLegal}
 use Rattle.uv_machine.specs.Reached.{IsIn, cell_in}
 use Rattle.uv_graph.specs.declared.out.Out.{Out}
-use Rattle.uv_graph.specs.Deeds.{Told, TellsLives}
+use Rattle.uv_pool.specs.Deeds.{DeedFacts, TellsLives}
 use Rattle.uv_graph.specs.Kept.{Kept, out_of, kill_of}
 use Rattle.uv_graph.specs.Lives.{identity_of, is_at, lives_in}
-use Rattle.uv_graph.specs.Logged.{Logged}
+use Rattle.uv_machine.specs.Logged.{Logged}
 
 -- the object stands in this cell: it isn't a husk
 abbrev pub stands_at : ℕ → ℕ → Object → Bool
@@ -47,7 +47,7 @@ abbrev pub seat_of : List Entry → ℕ → ℕ → Seat
 seat_of h k i = seat_in (state_of h) h k i
 
 -- a deed of this cell, with its generation and lives
-pub record IsDeedAt (t : Told) (k i : ℕ) (s : Seat) (cell : Cell) : Type 0 where
+pub record IsDeedAt (t : DeedFacts) (k i : ℕ) (s : Seat) (cell : Cell) : Type 0 where
   pub is : s.cell ≡ Some cell
   pub kind : kind_place t.kind ≡ k
   pub index : t.index ≡ i
@@ -55,14 +55,14 @@ pub record IsDeedAt (t : Told) (k i : ℕ) (s : Seat) (cell : Cell) : Type 0 whe
   pub lives : TellsLives t.lives s.lives
 
 -- the deed of a cell that nobody holds: it may be drawn while it is home, and is spent behind the last generation
-pub record IsIdleDeed (t : Told) (k i : ℕ) (s : Seat) : Type 0 where
+pub record IsIdleDeed (t : DeedFacts) (k i : ℕ) (s : Seat) : Type 0 where
   pub cell : Cell
   pub at : IsDeedAt t k i s cell
   pub planted : t.planted ≡ false
   pub spent : t.spent ≡ not cell.home
 
 -- the deed of a cell that is held, planted for its holder
-pub record IsHeldDeed (t : Told) (k i : ℕ) (s : Seat) (holder : Identity) : Type 0 where
+pub record IsHeldDeed (t : DeedFacts) (k i : ℕ) (s : Seat) (holder : Identity) : Type 0 where
   pub cell : Cell
   pub at : IsDeedAt t k i s cell
   pub planted : t.planted ≡ true
@@ -78,17 +78,17 @@ pub record IsAway (kept : Kept) (k i o : ℕ) : Type 0 where
   pub index : out.index ≡ i
   pub object : out.object ≡ o
 
-pub record IsIdle (slot : Option Told) (k i : ℕ) (s : Seat) : Type 0 where
-  pub deed : Told
+pub record IsIdle (slot : Option DeedFacts) (k i : ℕ) (s : Seat) : Type 0 where
+  pub deed : DeedFacts
   pub there : slot ≡ Some deed
   pub idle : IsIdleDeed deed k i s
 
-abbrev pub IsHeldOrAway : Kept → Option Told → ℕ → ℕ → Seat → Identity → Type 0
+abbrev pub IsHeldOrAway : Kept → Option DeedFacts → ℕ → ℕ → Seat → Identity → Type 0
 IsHeldOrAway kept None k i s holder = IsAway kept k i holder.id
 IsHeldOrAway kept (Some deed) k i s holder = IsHeldDeed deed k i s holder
 
 -- the deed of a cell stands in its pool while nobody holds the cell, else among the planted ones unless it is out
-abbrev pub IsPlaced : Kept → Option Told → Option Told → ℕ → ℕ → Seat → Option Identity → Type 0
+abbrev pub IsPlaced : Kept → Option DeedFacts → Option DeedFacts → ℕ → ℕ → Seat → Option Identity → Type 0
 IsPlaced kept pooled held k i s None = IsIdle pooled k i s × (held ≡ None)
 IsPlaced kept pooled held k i s (Some holder) = (pooled ≡ None) × IsHeldOrAway kept held k i s holder
 
@@ -159,7 +159,7 @@ abbrev pub seat_place : ℕ → ℕ → ℕ
 seat_place k i = k * CELLS + i
 
 -- how the parts of a graph fit
-pub record IsTied {D : Type 0} (tell : D → Told) (log : Logged) (kept : Kept) (pools : List (Homes D)) (held : List (Option D)) : Type 0 where
+pub record IsTied {D : Type 0} (tell : D → DeedFacts) (log : Logged) (kept : Kept) (pools : List (Homes D)) (held : List (Option D)) : Type 0 where
   pub history : kept.history ≡ log.history
   pub legal : IsLegal log.history
   pub covered : sum kept.spares ≤ log.spare

@@ -1,15 +1,16 @@
 -- What is written to the places where deeds stand.
-use Rattle.std.specs.Prelude.{Bool, Option, None, Some}
+use Rattle.std.specs.Prelude.{Option, None, Some}
+use Rattle.uv_pool.specs.Deeds.{DeedFacts}
 use Rattle.uv_pool.specs.Homes.{Homes, home_place, deed_at_if, drawn_if}
 
 -- the deed that a pool gives next, if there is a pool
-abbrev pub next_deed : {D : Type 0} → (D → Bool) → Option (Homes D) → Option D
-next_deed spent None = None
-next_deed spent (Some pool) = deed_at_if pool (home_place spent pool)
+abbrev pub next_deed : {D : Type 0} → (D → DeedFacts) → Option (Homes D) → Option D
+next_deed facts None = None
+next_deed facts (Some pool) = deed_at_if pool (home_place facts pool)
 
 -- a pool that gave its next deed
-abbrev pub after_draw : {D : Type 0} → (D → Bool) → Homes D → Homes D
-after_draw spent pool = drawn_if (home_place spent pool) pool
+abbrev pub after_draw : {D : Type 0} → (D → DeedFacts) → Homes D → Homes D
+after_draw facts pool = drawn_if (home_place facts pool) pool
 
 -- a slot that holds this
 abbrev pub put_slot : {D : Type 0} → Option D → Option D → Option D

@@ -38,7 +38,7 @@ use Rattle.uv_graph.specs.declared.told.Torn.{Torn}
 use Rattle.uv_graph.specs.declared.told.Torn.TheVariants as torn
 use Rattle.uv_graph.specs.declared.out.Out.{Out}
 use Rattle.uv_graph.specs.Calls.{calls_on}
-use Rattle.uv_graph.specs.Deeds.{Told}
+use Rattle.uv_pool.specs.Deeds.{DeedFacts}
 use Rattle.uv_graph.specs.Hands.{HandsNew, HandsPlanted, HandsKilled, ComesBuried}
 use Rattle.uv_graph.specs.Kept.{Kept, out_of, kill_of}
 use Rattle.uv_graph.specs.Notes.{Notes, NotesOut, NotesKill, NotesSpared, NotesOrSpares, IsDry}
@@ -166,7 +166,7 @@ pub record IsRefusedBy (old new : Kept) (c : ℕ) (w : Word) (e : Errno) : Type 
   pub notes : Notes old new (step_entry c done)
 
 -- an object was made, and its cell's deed handed out
-pub record PlantsFor (old new : Kept) (c : ℕ) (t : Told) (o : ℕ) (kind : Kind) : Type 0 where
+pub record PlantsFor (old new : Kept) (c : ℕ) (t : DeedFacts) (o : ℕ) (kind : Kind) : Type 0 where
   pub done : Done
   pub next : IsNextOf old c done
   pub word : done.word ≡ Make
@@ -175,7 +175,7 @@ pub record PlantsFor (old new : Kept) (c : ℕ) (t : Told) (o : ℕ) (kind : Kin
   pub of_kind : hands.item.kind ≡ kind
 
 -- a live object was taken out of use, and its deed handed out
-pub record RetiresFor (old new : Kept) (c : ℕ) (t : Told) (o : ℕ) (kind : Kind) : Type 0 where
+pub record RetiresFor (old new : Kept) (c : ℕ) (t : DeedFacts) (o : ℕ) (kind : Kind) : Type 0 where
   pub done : Done
   pub next : IsNextOf old c done
   pub word : done.word ≡ Check
@@ -204,7 +204,7 @@ pub record EndsWith (old new : Kept) (c : ℕ) (a : Answer) : Type 0 where
   pub notes : Notes old new (step_entry c done)
 
 -- what each answer of a step says; `tell` is what a deed tells
-abbrev pub StepGives : {D : Type 0} → (D → Told) → Kept → Kept → ℕ → Progress D → Type 0
+abbrev pub StepGives : {D : Type 0} → (D → DeedFacts) → Kept → Kept → ℕ → Progress D → Type 0
 StepGives tell old new c (progress.Went w) = GoesBy old new c w
 StepGives tell old new c (progress.Refused w e) = IsRefusedBy old new c w e
 StepGives tell old new c (progress.Plant deed object kind) = PlantsFor old new c (tell deed) object kind
@@ -245,7 +245,7 @@ pub record ActsBy (old new : Kept) (c : ℕ) (found : Option QpState) (a : Answe
 -- The finish behind a retirement.
 
 -- a client's call has a deed out and is about to finish its object, and the deed comes back buried
-pub record IsFinishing (k : Kept) (c : ℕ) (t : Told) : Type 0 where
+pub record IsFinishing (k : Kept) (c : ℕ) (t : DeedFacts) : Type 0 where
   pub client : IsClient c
   pub call : InFlight
   pub is : call_of (state_of k.history) c ≡ Some call
@@ -329,7 +329,7 @@ pub record IsSweeper (k : Kept) (by f : ℕ) : Type 0 where
   pub tearing : phase_of (state_of k.history) f ≡ file.Tearing by
   pub none : kill_of k by ≡ None
 
-pub record KillsNext (old new : Kept) (by f : ℕ) (t : Told) (o : ℕ) (kind : Kind) (handle : ℕ) : Type 0 where
+pub record KillsNext (old new : Kept) (by f : ℕ) (t : DeedFacts) (o : ℕ) (kind : Kind) (handle : ℕ) : Type 0 where
   pub quiet : calls_on (state_of old.history) f ≡ 0
   pub item : Object
   pub newest : newest_free (state_of old.history) f ≡ Some item
@@ -352,13 +352,13 @@ pub record WaitsFor (old new : Kept) (f n : ℕ) : Type 0 where
   pub calls : calls_on (state_of old.history) f ≡ n
   pub same : new ≡ old
 
-abbrev pub SweepGives : {D : Type 0} → (D → Told) → Kept → Kept → ℕ → ℕ → Swept D → Type 0
+abbrev pub SweepGives : {D : Type 0} → (D → DeedFacts) → Kept → Kept → ℕ → ℕ → Swept D → Type 0
 SweepGives tell old new by f (swept.Kill deed object kind handle) = KillsNext old new by f (tell deed) object kind handle
 SweepGives tell old new by f swept.Done = SweepsOut old new by f
 SweepGives tell old new by f (swept.NotYet n) = WaitsFor old new f n
 
 -- the deed that the teardown has out comes back buried
-pub record IsReleasing (k : Kept) (by f : ℕ) (t : Told) : Type 0 where
+pub record IsReleasing (k : Kept) (by f : ℕ) (t : DeedFacts) : Type 0 where
   pub tearing : phase_of (state_of k.history) f ≡ file.Tearing by
   pub object : ℕ
   pub comes : ComesBuried (kill_of k by) object t k.history

@@ -4,14 +4,13 @@ ghost use Rattle.std.specs.Prelude.{◌≡◌, ◌*◌, IfOk, length};
 ghost use Rattle.uv_num.specs.declared.limits.TheConstants.{CELLS, KINDS};
 ghost use Rattle.uv_machine.specs.Laws.{IsIdle};
 ghost use Rattle.uv_machine.specs.Histories.{IsLegal, state_of};
-ghost use Rattle.uv_graph.specs.Deeds.{told};
-ghost use Rattle.uv_graph.specs.Hands.{AreNewPools, AreHomePools, AreOver};
+ghost use Rattle.uv_pool.specs.Filled.{AreNewPools};
+ghost use Rattle.uv_graph.specs.Hands.{AreHomePools, AreOver};
 ghost use Rattle.uv_graph.specs.Begins.{IsFresh, HoldsNone};
 
 use crate::graph::Graph;
-use crate::log::Log;
 use std::alloc::{AllocError, Global};
-use uv_machine::{ACTOR_PLACES, Entry};
+use uv_machine::{ACTOR_PLACES, Entry, Log};
 use uv_num::{CELLS, CLIENTS, KINDS, List, SCRIPT_LINES};
 use uv_pool::{Deed, Pool};
 
@@ -42,7 +41,7 @@ impl<D: Deed> Graph<D> {
     /// The graph in which nothing has happened, with room for both devices to be pulled and for `SPARES` refused entries
     /// of each client.
     pub fn new(alloc: Global, pools: List<Pool<D>>) -> Result<Graph<D>, AllocError>
-        requires { AreNewPools (told D.kind_of D.index_of D.generation_of D.is_spent D.is_planted D.identity_of D.lives_of) pools }
+        requires { AreNewPools D.facts pools }
         ensures { IfOk result (λ g. IsFresh g) }
     {
         let mut log = Log::new(alloc)?;
@@ -64,7 +63,7 @@ impl<D: Deed> Graph<D> {
         requires over { AreOver (state_of self.history) }
         ensures history { result.0 ≡ self.history }
         ensures legal { IsLegal self.history }
-        ensures pools { AreHomePools (told D.kind_of D.index_of D.generation_of D.is_spent D.is_planted D.identity_of D.lives_of) result.1 self.history }
+        ensures pools { AreHomePools D.facts result.1 self.history }
     {
         let Graph { log, pools, .. } = self;
         (log.into_history(), pools)

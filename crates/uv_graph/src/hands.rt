@@ -7,7 +7,7 @@ ghost use Rattle.uv_machine.specs.declared.entry.Word.TheVariants as word;
 ghost use Rattle.uv_machine.specs.declared.entry.Answer.TheVariants as answer;
 ghost use Rattle.uv_machine.specs.States.{object_with};
 ghost use Rattle.uv_machine.specs.Histories.{Allowed, IsLegal, state_of};
-ghost use Rattle.uv_graph.specs.Deeds.{told, out_for};
+ghost use Rattle.uv_graph.specs.Deeds.{out_for};
 ghost use Rattle.uv_graph.specs.Hands.{HandsNew, HandsPlanted, HandsKilled, ComesPlanted, ComesBuried, is_live_object};
 ghost use Rattle.uv_graph.specs.Kept.{out_of, kill_of};
 ghost use Rattle.uv_graph.specs.Notes.{NotesOut, NotesKill, HasNoOut};
@@ -17,7 +17,7 @@ ghost use Rattle.uv_graph.specs.Seats.{seat_place};
 use crate::graph::Graph;
 use crate::out::Out;
 use crate::slots;
-use uv_machine::{Answer, Entry, Object, Word};
+use uv_machine::{Answer, Entry, Object, Readers, Word};
 use uv_num::{CELLS, Kind};
 use uv_pool::Deed;
 
@@ -46,7 +46,7 @@ impl<D: Deed> Graph<D> {
     pub fn make(&mut self, client: u32, object: u32) -> D
         requires allowed { Allowed (state_of self.old.history) (entry.Step client word.Make object None answer.Ok) }
         requires none { out_of self.old client ≡ None }
-        ensures hands { HandsNew self.old self.new (entry.Step client word.Make object None answer.Ok) client object (told D.kind_of D.index_of D.generation_of D.is_spent D.is_planted D.identity_of D.lives_of result) }
+        ensures hands { HandsNew self.old self.new (entry.Step client word.Make object None answer.Ok) client object (D.facts result) }
         ensures legal { IsLegal self.new.history }
     {
         self.log.note(Entry::Step {
@@ -71,7 +71,7 @@ impl<D: Deed> Graph<D> {
 
     /// Takes the deed back that `make` handed out, now planted for the call's object. It makes no entry.
     pub fn planted(&mut self, client: u32, deed: D)
-        requires { ComesPlanted self.old client (told D.kind_of D.index_of D.generation_of D.is_spent D.is_planted D.identity_of D.lives_of deed) }
+        requires { ComesPlanted self.old client (D.facts deed) }
         ensures same { HasNoOut self.old self.new client }
         ensures legal { IsLegal self.new.history }
     {
@@ -86,7 +86,7 @@ impl<D: Deed> Graph<D> {
         requires allowed { Allowed (state_of self.old.history) (entry.Step client word.Check object None answer.Ok) }
         requires live { is_live_object (object_with (state_of self.old.history) object) ≡ true }
         requires none { out_of self.old client ≡ None }
-        ensures hands { HandsPlanted self.old self.new (entry.Step client word.Check object None answer.Ok) client object (told D.kind_of D.index_of D.generation_of D.is_spent D.is_planted D.identity_of D.lives_of result) }
+        ensures hands { HandsPlanted self.old self.new (entry.Step client word.Check object None answer.Ok) client object (D.facts result) }
         ensures legal { IsLegal self.new.history }
     {
         let found = self.log.state().object_with(object);
@@ -113,7 +113,7 @@ impl<D: Deed> Graph<D> {
     /// out. So many actions stand in what the object leaves.
     pub fn finish(&mut self, client: u32, object: u32, deed: D, kept: u64)
         requires allowed { Allowed (state_of self.old.history) (entry.Step client word.Finish object None (answer.Kept kept)) }
-        requires buried { ComesBuried (out_of self.old client) object (told D.kind_of D.index_of D.generation_of D.is_spent D.is_planted D.identity_of D.lives_of deed) self.old.history }
+        requires buried { ComesBuried (out_of self.old client) object (D.facts deed) self.old.history }
         ensures notes { NotesOut self.old self.new (entry.Step client word.Finish object None (answer.Kept kept)) client None }
         ensures legal { IsLegal self.new.history }
     {
@@ -136,7 +136,7 @@ impl<D: Deed> Graph<D> {
         requires allowed { Allowed (state_of self.old.history) (entry.Kill object) }
         requires torn { torn_by_object (state_of self.old.history) by (object_with (state_of self.old.history) object) ≡ true }
         requires none { kill_of self.old by ≡ None }
-        ensures hands { HandsKilled self.old self.new (entry.Kill object) by object (told D.kind_of D.index_of D.generation_of D.is_spent D.is_planted D.identity_of D.lives_of result) }
+        ensures hands { HandsKilled self.old self.new (entry.Kill object) by object (D.facts result) }
         ensures legal { IsLegal self.new.history }
     {
         let found = self.log.state().object_with(object);
@@ -157,7 +157,7 @@ impl<D: Deed> Graph<D> {
     /// in what the object leaves.
     pub fn gone(&mut self, by: u32, object: u32, deed: D, kept: u64)
         requires allowed { Allowed (state_of self.old.history) (entry.Gone object kept) }
-        requires buried { ComesBuried (kill_of self.old by) object (told D.kind_of D.index_of D.generation_of D.is_spent D.is_planted D.identity_of D.lives_of deed) self.old.history }
+        requires buried { ComesBuried (kill_of self.old by) object (D.facts deed) self.old.history }
         ensures notes { NotesKill self.old self.new (entry.Gone object kept) by None }
         ensures legal { IsLegal self.new.history }
     {

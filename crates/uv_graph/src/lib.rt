@@ -3,24 +3,23 @@
 //! machine allows now, and call the one writer that makes it; they cite `Notes` and its kin, `Allowed` and `state_of`.
 #![tactic(auto)]
 
-mod closing;
 mod counts;
 mod ends;
 mod graph;
 mod hands;
+mod identity;
 mod laws;
-mod log;
+mod next;
 mod opening;
 mod out;
 mod slots;
-mod sparing;
 mod standing;
 mod steps;
 mod told;
 
-pub use closing::{plain_told, refused_told};
 pub use ends::SPARES;
 pub use graph::Graph;
+pub use identity::identity_of;
 pub use laws::own_stands_apart;
 pub use out::{Out, Own};
 pub use told::{Progress, Swept, Torn};

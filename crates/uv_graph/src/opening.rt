@@ -1,40 +1,27 @@
 //! The writers of opens and enters, which take room for all that they can cause, and of their refusals.
 
-ghost use Rattle.std.specs.Prelude.{◌≡◌, ◌+◌, IsTrue, true, false, OnOk, OnErr, Some, ◌⊎◌, if◌then◌else◌};
+ghost use Rattle.std.specs.Prelude.{◌≡◌, ◌<◌, ◌+◌, OnOk, OnErr};
 ghost use Rattle.uv_machine.specs.declared.entry.Entry.TheVariants as entry;
 ghost use Rattle.uv_machine.specs.declared.entry.Answer.TheVariants as answer;
 ghost use Rattle.uv_machine.specs.Histories.{Allowed, IsLegal, state_of};
-ghost use Rattle.uv_machine.specs.Plans.{entered};
-ghost use Rattle.uv_machine.specs.Accounts.{costs, call_owes};
+ghost use Rattle.uv_machine.specs.Accounts.{costs};
 ghost use Rattle.uv_num.specs.Place.{at_place};
 ghost use Rattle.uv_graph.specs.Dooms.{DoomsNone};
-ghost use Rattle.uv_graph.specs.Kept.{one_less};
-ghost use Rattle.uv_graph.specs.Notes.{Notes, NotesOrSpares, IsNotedOrDry, Leaves, HasNoneOut};
+ghost use Rattle.uv_graph.specs.Kept.{one_less, spare_of};
+ghost use Rattle.uv_graph.specs.Notes.{Notes, NotesSpared, IsNotedOrDry, Leaves, HasNoneOut};
 
 use crate::graph::Graph;
 use std::alloc::AllocError;
-use uv_machine::{Answer, Entry};
-use uv_num::{Errno, Request, Role};
+use uv_machine::{Answer, Entry, owed_by};
+use uv_num::{Errno, Request};
 use uv_pool::Deed;
 
 /// The entries of an open, and of the ends of the file that it opens: its tear by the driver and the end of that, and its
 /// tear and its close.
 const OPEN_COSTS: usize = 5;
 
-/// The entries of a call: its enter, its steps, and what becomes of the object that it makes.
-fn enter_costs(request: Request) -> usize
-    ensures { result ≡ 1 + call_owes (Some (entered 0 request)) }
-{
-    let looks = request.looks().len();
-    match request.role() {
-        Role::Creates(_) => 2 * looks + 7,
-        Role::Destroys(_) => 5,
-        Role::Acts(_) => 2 * looks + 3,
-    }
-}
-
 /// One less is set aside at a place.
-pub(crate) fn spend(spares: &mut [u32], at: usize)
+fn spend(spares: &mut [u32], at: usize)
     ensures { spares.new ≡ at_place spares.old at one_less }
 {
     if at < spares.len() && spares[at] > 0 {
@@ -69,7 +56,7 @@ impl<D: Deed> Graph<D> {
         ensures legal { IsLegal self.new.history }
     {
         self.take(
-            enter_costs(request),
+            1 + owed_by(request),
             Entry::Enter {
                 client,
                 file,
@@ -150,6 +137,7 @@ impl<D: Deed> Graph<D> {
         }
     }
 
+    /// Notes a refused entry in room that is set aside for the client, if there is any.
     fn note_spared(&mut self, client: u32, entry: Entry) -> bool
         requires allowed { Allowed (state_of self.old.history) entry }
         requires room { costs entry ≡ 1 }
@@ -159,11 +147,45 @@ impl<D: Deed> Graph<D> {
         ensures noted { IsNotedOrDry result self.old self.new entry client }
         ensures legal { IsLegal self.new.history }
     {
+        self.is_legal();
         if self.spare(client) == 0 {
             return false;
         }
+        self.note_in_spare(client, entry);
+        true
+    }
+
+    fn note_in_spare(&mut self, client: u32, entry: Entry)
+        requires allowed { Allowed (state_of self.old.history) entry }
+        requires room { costs entry ≡ 1 }
+        requires leaves { Leaves (state_of self.old.history) entry }
+        requires dooms { DoomsNone (state_of self.old.history) entry }
+        requires none { HasNoneOut self.old entry }
+        requires spare { 0 < spare_of self.old client }
+        ensures notes { NotesSpared self.old self.new entry client }
+        ensures less { spare_of self.old client ≡ spare_of self.new client + 1 }
+        ensures legal { IsLegal self.new.history }
+    {
         spend(&mut self.spares, client as usize);
         self.log.note(entry);
-        true
+    }
+
+    /// Notes that a client's call is refused at its enter, in room that is set aside for the client. It takes no memory.
+    pub fn refuse_in_spare(&mut self, client: u32, file: u32, request: Request, errno: Errno)
+        requires allowed { Allowed (state_of self.old.history) (entry.Enter client file request (answer.Refused errno)) }
+        requires spare { 0 < spare_of self.old client }
+        ensures notes { NotesSpared self.old self.new (entry.Enter client file request (answer.Refused errno)) client }
+        ensures less { spare_of self.old client ≡ spare_of self.new client + 1 }
+        ensures legal { IsLegal self.new.history }
+    {
+        self.note_in_spare(
+            client,
+            Entry::Enter {
+                client,
+                file,
+                request,
+                answer: Answer::Refused(errno),
+            },
+        );
     }
 }

@@ -22,8 +22,8 @@ pub fn set_out(outs: &mut [Option<Out>], at: usize, out: Option<Out>)
 
 /// Draws the next deed of the pool at a place.
 pub fn draw<D: Deed>(pools: &mut List<Pool<D>>, at: usize) -> Option<D>
-    ensures deed { result ≡ next_deed D.is_spent (slice_get pools.old at) }
-    ensures pools { pools.new ≡ at_place pools.old at (after_draw D.is_spent) }
+    ensures deed { result ≡ next_deed D.facts (slice_get pools.old at) }
+    ensures pools { pools.new ≡ at_place pools.old at (after_draw D.facts) }
 {
     if at < pools.len() {
         return pools.item_mut(at).draw();
@@ -33,8 +33,8 @@ pub fn draw<D: Deed>(pools: &mut List<Pool<D>>, at: usize) -> Option<D>
 
 /// Brings a deed home to the pool at a place.
 pub fn bring_home<D: Deed>(pools: &mut List<Pool<D>>, at: usize, deed: D)
-    requires { (pool : Homes D) → slice_get pools.old at ≡ Some pool → IsOutOf D.kind_of D.index_of pool deed }
-    ensures { pools.new ≡ at_place pools.old at (brought (D.index_of deed) deed) }
+    requires { (pool : Homes D) → slice_get pools.old at ≡ Some pool → IsOutOf D.facts pool deed }
+    ensures { pools.new ≡ at_place pools.old at (brought (D.facts deed).index deed) }
 {
     if at < pools.len() {
         pools.item_mut(at).home(deed);

@@ -1,26 +1,22 @@
-//! What stands of a file that is torn down, and what is out.
+//! What is out, and what stands of a file that is torn down and of the object that a call destroys.
 
 ghost use Rattle.std.specs.Prelude.{◌≡◌, true, None, IfSome};
 ghost use Rattle.uv_machine.specs.declared.file.FilePhase.TheVariants as phase;
 ghost use Rattle.uv_machine.specs.Histories.{IsLegal, state_of};
 ghost use Rattle.uv_machine.specs.Laws.{IsSwept};
-ghost use Rattle.uv_machine.specs.States.{phase_of, is_quiet};
-ghost use Rattle.uv_graph.specs.Kept.{kill_of};
-ghost use Rattle.uv_graph.specs.Seats.{HasKill};
+ghost use Rattle.uv_machine.specs.States.{object_with, phase_of, is_quiet};
+ghost use Rattle.uv_machine.specs.declared.entry.Word.TheVariants as word;
+ghost use Rattle.uv_graph.specs.Kept.{kill_of, out_of};
+ghost use Rattle.uv_graph.specs.Seats.{HasKill, HasOut};
+ghost use Rattle.uv_graph.specs.Stepping.{IsStep, Rests};
+ghost use Rattle.uv_graph.specs.Turns.{is_husk_object};
 
 use crate::graph::Graph;
 use crate::out::Out;
-use uv_machine::State;
+use uv_machine::Done;
 use uv_pool::Deed;
 
 impl<D: Deed> Graph<D> {
-    /// The state after the history.
-    pub fn state(&self) -> &State
-        ensures { result.now ≡ state_of self.now.history }
-    {
-        self.log.state()
-    }
-
     /// The stored history is legal. It does nothing.
     pub fn is_legal(&self)
         ensures { IsLegal self.now.history }
@@ -48,5 +44,37 @@ impl<D: Deed> Graph<D> {
         ensures { IsSwept self.now.history file by }
     {
         let _state = self.log.state();
+    }
+}
+
+/// What is known of the object that a call holds exclusively.
+impl<D: Deed> Graph<D> {
+    /// The deed that a client's call has out: it is for the object that the call is about to commit or to finish.
+    pub fn out_of(&self, client: u32) -> Option<Out>
+        ensures value { result ≡ out_of self.now client }
+        ensures has { IfSome result (λ o. HasOut (state_of self.now.history) client o) }
+    {
+        match self.outs.get(client as usize) {
+            None => None,
+            Some(slot) => *slot,
+        }
+    }
+
+    /// What a call is about to check is live or a husk. It does nothing.
+    pub fn checks_what_rests(&self, _client: u32, _done: Done)
+        requires step { IsStep self.now _client _done }
+        requires word { _done.word ≡ word.Check }
+        ensures { Rests (object_with (state_of self.now.history) _done.object) }
+    {
+        let _ = &self.log;
+    }
+
+    /// What a call without a deed out is about to finish is a husk. It does nothing.
+    pub fn finishes_a_husk(&self, _client: u32, _done: Done)
+        requires step { IsStep self.now _client _done }
+        requires word { _done.word ≡ word.Finish }
+        ensures { is_husk_object (object_with (state_of self.now.history) _done.object) ≡ true }
+    {
+        let _ = &self.log;
     }
 }

@@ -31,7 +31,14 @@ impl<D: Deed> Graph<D> {
         self.log.note(entry);
     }
 
-    fn step(&mut self, client: u32, word: Word, object: u32, found: Option<QpState>, answer: Answer)
+    pub(crate) fn step(
+        &mut self,
+        client: u32,
+        word: Word,
+        object: u32,
+        found: Option<QpState>,
+        answer: Answer,
+    )
         requires allowed { Allowed (state_of self.old.history) (entry.Step client word object found answer) }
         requires leaves { Leaves (state_of self.old.history) (entry.Step client word object found answer) }
         requires dooms { DoomsNone (state_of self.old.history) (entry.Step client word object found answer) }

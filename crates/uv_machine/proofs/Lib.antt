@@ -17,6 +17,7 @@ pub mod Keeping
 pub mod Leasts
 pub mod Lifetimes
 pub mod Lives
+pub mod Logging
 pub mod Marked
 pub mod Meeting
 pub mod Members

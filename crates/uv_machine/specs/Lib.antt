@@ -7,6 +7,7 @@ pub mod Effects
 pub mod Histories
 pub mod Laws
 pub mod Lives
+pub mod Logged
 pub mod Marking
 pub mod Objects
 pub mod Outside

@@ -9,61 +9,64 @@ use crate::call::InFlight;
 use crate::entry::Answer;
 use crate::file::FilePhase;
 use crate::object::Object;
-use crate::state::State;
+use crate::readers::Readers;
 use uv_num::{
     ACCESS_LOCAL_WRITE, ACCESS_MW_BIND, ACCESS_REMOTE_WRITE, Act, Errno, QpAttrs, QpState, modify,
 };
 
-impl State {
-    /// The errno with which an act is refused, if it is.
-    pub(crate) fn act_refusal(
-        &self,
-        call: InFlight,
-        found: Option<QpState>,
-        act: Act,
-    ) -> Option<Errno>
-        ensures { result ≡ act_refusal self.now call found act }
-    {
-        match act {
-            Act::Modify { to, attrs } => modify_refusal(
-                self.object_with(call.acted_on()),
-                found_or(found),
-                to,
-                attrs,
-            ),
-            Act::Query => None,
-            Act::Bind {
-                offset,
-                length,
-                access,
-            } => bind_refusal(
-                self.object_with(call.acted_on()),
-                self.object_with(call.looked_at(1)),
-                offset,
-                length,
-                access,
-            ),
-            Act::Unbind {
-                offset,
-                length,
-                access,
-            } => inval_unless(gives_nothing(offset, length, access)),
-            Act::Async => event_refusal(self.has_event(call.file), self.phase_of(call.file)),
-        }
+/// The errno with which an act is refused, if it is.
+pub(crate) fn act_refusal<V: Readers>(
+    view: &V,
+    call: InFlight,
+    found: Option<QpState>,
+    act: Act,
+) -> Option<Errno>
+    ensures { result ≡ act_refusal (V.state view.now) call found act }
+{
+    match act {
+        Act::Modify { to, attrs } => modify_refusal(
+            view.object_with(call.acted_on()),
+            found_or(found),
+            to,
+            attrs,
+        ),
+        Act::Query => None,
+        Act::Bind {
+            offset,
+            length,
+            access,
+        } => bind_refusal(
+            view.object_with(call.acted_on()),
+            view.object_with(call.looked_at(1)),
+            offset,
+            length,
+            access,
+        ),
+        Act::Unbind {
+            offset,
+            length,
+            access,
+        } => inval_unless(gives_nothing(offset, length, access)),
+        Act::Async => event_refusal(view.has_event(call.file), view.phase_of(call.file)),
     }
+}
 
-    /// What an act that isn't refused answers.
-    pub(crate) fn act_answer(&self, call: InFlight, found: Option<QpState>, act: Act) -> Answer
-        ensures { result ≡ act_answer self.now call found act }
-    {
-        match act {
-            Act::Modify { .. } | Act::Bind { .. } | Act::Unbind { .. } => Answer::Ok,
-            Act::Query => Answer::State {
-                state: found_or(found),
-                index: index_of_found(self.object_with(call.acted_on())),
-            },
-            Act::Async => Answer::Event,
-        }
+/// What an act that isn't refused answers.
+pub(crate) fn act_answer<V: Readers>(
+    view: &V,
+    call: InFlight,
+    found: Option<QpState>,
+    act: Act,
+) -> Answer
+    ensures { result ≡ act_answer (V.state view.now) call found act }
+{
+    match act {
+        Act::Modify { .. } | Act::Bind { .. } | Act::Unbind { .. } => Answer::Ok,
+        Act::Query => Answer::State {
+            state: found_or(found),
+            index: index_of_found(view.object_with(call.acted_on())),
+        },
+        Act::Async => Answer::Event,
     }
 }
 

@@ -15,6 +15,7 @@ use crate::entry::{Answer, Entry, Word};
 use crate::file::{File, FilePhase};
 use crate::object::{Binding, Change, Object, Phase, change_object};
 use crate::pool::Pool;
+use crate::readers::Readers;
 use crate::state::State;
 use crate::table;
 use uv_num::{Act, Errno, Kind, MOST_OBJECTS, NONE, Request, Role, Room};

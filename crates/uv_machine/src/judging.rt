@@ -6,8 +6,12 @@ ghost use Rattle.uv_machine.specs.declared.entry.Entry.TheVariants.{Open, Enter,
 ghost use Rattle.uv_machine.specs.Histories.{IsActor, kept_in, IsNext, Allowed, IsLegal, IsFirstBad};
 
 use crate::entry::{Answer, Done, Entry, Word};
-use crate::outside::may_answer;
+use crate::outside::{
+    enter_refusal, may_answer, may_close, may_dissociate, may_go, may_kill, may_tear, open_refusal,
+};
+use crate::readers::Readers;
 use crate::state::State;
+use crate::steps::next_step;
 use std::alloc::{AllocError, Global};
 use uv_num::{ACTORS, DEVICES, FILES, QpState, Request};
 
@@ -38,10 +42,10 @@ impl State {
             } => self.allows_step(client, word, object, found, answer),
             Entry::Unplug { device } => self.allows_unplug(device),
             Entry::Tear { file, by } => self.allows_tear(file, by),
-            Entry::Kill { object } => self.may_kill(object),
-            Entry::Gone { object, .. } => self.may_go(object),
-            Entry::Dissociated { file } => is_file(file) && self.may_dissociate(file),
-            Entry::Closed { file } => is_file(file) && self.may_close(file),
+            Entry::Kill { object } => may_kill(self, object),
+            Entry::Gone { object, .. } => may_go(self, object),
+            Entry::Dissociated { file } => is_file(file) && may_dissociate(self, file),
+            Entry::Closed { file } => is_file(file) && may_close(self, file),
         }
     }
 
@@ -51,7 +55,7 @@ impl State {
         is_actor(client)
             && is_file(file)
             && is_device(device)
-            && may_answer(self.open_refusal(file, device), answer)
+            && may_answer(open_refusal(self, file, device), answer)
     }
 
     fn allows_enter(&self, client: u32, file: u32, request: Request, answer: Answer) -> bool
@@ -60,7 +64,7 @@ impl State {
         is_actor(client)
             && is_file(file)
             && self.call_of(client).is_none()
-            && may_answer(self.enter_refusal(file, request), answer)
+            && may_answer(enter_refusal(self, file, request), answer)
     }
 
     fn allows_step(
@@ -89,7 +93,7 @@ impl State {
         ensures { IsTrue result ↔ IsNext self.now actor done }
     {
         is_just(
-            self.next_step(actor, done.found, kept_in(done.answer)),
+            next_step(self, actor, done.found, kept_in(done.answer)),
             done,
         )
     }
@@ -103,7 +107,7 @@ impl State {
     fn allows_tear(&self, file: u32, by: u32) -> bool
         ensures { IsTrue result ↔ Allowed self.now (Tear file by) }
     {
-        is_actor(by) && is_file(file) && self.may_tear(file, by)
+        is_actor(by) && is_file(file) && may_tear(self, file, by)
     }
 }
 

@@ -7,15 +7,18 @@
 
 mod acts;
 mod call;
+mod costs;
 mod effects;
 mod entry;
 mod file;
 mod judging;
 mod laws;
+mod log;
 mod marks;
 mod object;
 mod outside;
 mod pool;
+mod readers;
 mod reads;
 mod state;
 mod steps;
@@ -23,6 +26,7 @@ mod table;
 mod told;
 
 pub use call::{InFlight, PLAN_STEPS};
+pub use costs::owed_by;
 pub use entry::{Answer, Done, Entry, Word};
 pub use file::{File, FilePhase};
 pub use judging::first_bad;
@@ -35,9 +39,15 @@ pub use laws::{
     sweep_begins, sweep_ends, sweep_goes_on, sweep_kills, sweep_leaves, sweep_releases,
     sweep_shows, users_first,
 };
+pub use log::Log;
 pub use object::{Binding, Change, Object, Phase};
+pub use outside::{
+    enter_refusal, may_close, may_dissociate, may_go, may_kill, may_tear, open_refusal,
+};
 pub use pool::{Cell, Pool};
+pub use readers::Readers;
 pub use state::{ACTOR_PLACES, State};
+pub use steps::next_step;
 pub use told::Told;
 
 #[cfg(test)]

@@ -7,7 +7,7 @@ ghost use Rattle.uv_machine.specs.States.{is_fresh, is_open, is_callable, is_tea
 use crate::entry::Answer;
 use crate::file::FilePhase;
 use crate::object::Object;
-use crate::state::State;
+use crate::readers::Readers;
 use uv_num::{Act, DRIVER, Errno, Request, Role};
 
 impl FilePhase {
@@ -92,91 +92,89 @@ impl FilePhase {
     }
 }
 
-impl State {
-    /// The errno with which an open of a file on a device is refused, if it is; want of memory aside.
-    pub fn open_refusal(&self, file: u32, device: u32) -> Option<Errno>
-        ensures { result ≡ open_refusal self.now file device }
-    {
-        if !self.phase_of(file).is_fresh() {
-            return Some(Errno::Inval);
-        }
-        if self.is_unplugged(device) {
-            Some(Errno::Io)
-        } else {
-            None
-        }
+/// The errno with which an open of a file on a device is refused, if it is; want of memory aside.
+pub fn open_refusal<V: Readers>(view: &V, file: u32, device: u32) -> Option<Errno>
+    ensures { result ≡ open_refusal (V.state view.now) file device }
+{
+    if !view.phase_of(file).is_fresh() {
+        return Some(Errno::Inval);
     }
+    if view.is_unplugged(device) {
+        Some(Errno::Io)
+    } else {
+        None
+    }
+}
 
-    /// The errno with which a request on a file is refused at its enter, if it is; want of memory aside.
-    pub fn enter_refusal(&self, file: u32, request: Request) -> Option<Errno>
-        ensures { result ≡ enter_refusal self.now file request }
-    {
-        if !self.phase_of(file).is_callable() {
-            return Some(Errno::BadF);
-        }
-        if self.is_unplugged(self.device_of(file)) && needs_device(request.role()) {
-            Some(Errno::Io)
-        } else {
-            None
-        }
+/// The errno with which a request on a file is refused at its enter, if it is; want of memory aside.
+pub fn enter_refusal<V: Readers>(view: &V, file: u32, request: Request) -> Option<Errno>
+    ensures { result ≡ enter_refusal (V.state view.now) file request }
+{
+    if !view.phase_of(file).is_callable() {
+        return Some(Errno::BadF);
     }
+    if view.is_unplugged(view.device_of(file)) && needs_device(request.role()) {
+        Some(Errno::Io)
+    } else {
+        None
+    }
+}
 
-    /// Whether an actor may begin to tear a file down.
-    pub fn may_tear(&self, file: u32, by: u32) -> bool
-        ensures { result ≡ may_tear self.now file by }
-    {
-        if by == DRIVER {
-            self.phase_of(file).is_open() && self.is_unplugged(self.device_of(file))
-        } else {
-            self.phase_of(file).is_callable()
-        }
+/// Whether an actor may begin to tear a file down.
+pub fn may_tear<V: Readers>(view: &V, file: u32, by: u32) -> bool
+    ensures { result ≡ may_tear (V.state view.now) file by }
+{
+    if by == DRIVER {
+        view.phase_of(file).is_open() && view.is_unplugged(view.device_of(file))
+    } else {
+        view.phase_of(file).is_callable()
     }
+}
 
-    fn is_swept(&self, file: u32) -> bool
-        ensures { result ≡ is_swept self.now file }
-    {
-        self.phase_of(file).is_tearing() && self.is_quiet(file)
-    }
+fn is_swept<V: Readers>(view: &V, file: u32) -> bool
+    ensures { result ≡ is_swept (V.state view.now) file }
+{
+    view.phase_of(file).is_tearing() && view.is_quiet(file)
+}
 
-    fn may_kill_in(&self, id: u32, file: u32) -> bool
-        ensures { result ≡ may_kill_in self.now id file }
-    {
-        self.is_swept(file) && !self.has_doomed(file) && is_object(self.newest_free(file), id)
-    }
+fn may_kill_in<V: Readers>(view: &V, id: u32, file: u32) -> bool
+    ensures { result ≡ may_kill_in (V.state view.now) id file }
+{
+    is_swept(view, file) && !view.has_doomed(file) && is_object(view.newest_free(file), id)
+}
 
-    /// Whether a teardown may take an object out of use.
-    pub fn may_kill(&self, id: u32) -> bool
-        ensures { result ≡ may_kill self.now id }
-    {
-        match self.object_with(id) {
-            None => false,
-            Some(x) => self.may_kill_in(id, x.file),
-        }
+/// Whether a teardown may take an object out of use.
+pub fn may_kill<V: Readers>(view: &V, id: u32) -> bool
+    ensures { result ≡ may_kill (V.state view.now) id }
+{
+    match view.object_with(id) {
+        None => false,
+        Some(x) => may_kill_in(view, id, x.file),
     }
+}
 
-    /// Whether a teardown may release an object.
-    pub fn may_go(&self, id: u32) -> bool
-        ensures { result ≡ may_go self.now id }
-    {
-        match self.object_with(id) {
-            None => false,
-            Some(x) => x.phase.is_doomed() && self.is_swept(x.file),
-        }
+/// Whether a teardown may release an object.
+pub fn may_go<V: Readers>(view: &V, id: u32) -> bool
+    ensures { result ≡ may_go (V.state view.now) id }
+{
+    match view.object_with(id) {
+        None => false,
+        Some(x) => x.phase.is_doomed() && is_swept(view, x.file),
     }
+}
 
-    /// Whether the driver may be through with a file: all its objects are husks.
-    pub fn may_dissociate(&self, file: u32) -> bool
-        ensures { result ≡ may_dissociate self.now file }
-    {
-        self.phase_of(file).is_removing() && self.is_quiet(file) && !self.has_standing(file)
-    }
+/// Whether the driver may be through with a file: all its objects are husks.
+pub fn may_dissociate<V: Readers>(view: &V, file: u32) -> bool
+    ensures { result ≡ may_dissociate (V.state view.now) file }
+{
+    view.phase_of(file).is_removing() && view.is_quiet(file) && !view.has_standing(file)
+}
 
-    /// Whether a file may be closed: all its objects are husks.
-    pub fn may_close(&self, file: u32) -> bool
-        ensures { result ≡ may_close self.now file }
-    {
-        self.phase_of(file).is_closing() && self.is_quiet(file) && !self.has_standing(file)
-    }
+/// Whether a file may be closed: all its objects are husks.
+pub fn may_close<V: Readers>(view: &V, file: u32) -> bool
+    ensures { result ≡ may_close (V.state view.now) file }
+{
+    view.phase_of(file).is_closing() && view.is_quiet(file) && !view.has_standing(file)
 }
 
 fn needs_device(role: Role) -> bool

@@ -4,7 +4,7 @@
 mod calls;
 mod ends;
 
-use crate::{Answer, Entry, State, Word, first_bad};
+use crate::{Answer, Entry, State, Word, enter_refusal, first_bad, next_step, open_refusal};
 use std::alloc::{AllocError, Global};
 use std::process::Abort;
 use uv_num::{Errno, NONE, QpState, Request};
@@ -68,7 +68,7 @@ impl Played {
         file: u32,
         device: u32,
     ) -> Result<Answer, AllocError> {
-        let answer = told(self.state.open_refusal(file, device));
+        let answer = told(open_refusal(&self.state, file, device));
         self.put(
             rt,
             Entry::Open {
@@ -88,7 +88,7 @@ impl Played {
         file: u32,
         request: Request,
     ) -> Result<Answer, AllocError> {
-        let answer = told(self.state.enter_refusal(file, request));
+        let answer = told(enter_refusal(&self.state, file, request));
         self.put(
             rt,
             Entry::Enter {
@@ -102,7 +102,7 @@ impl Played {
     }
 
     fn next(&mut self, rt: &impl Abort, client: u32) -> Result<Option<(Word, Answer)>, AllocError> {
-        match self.state.next_step(client, Some(QpState::Reset), 0) {
+        match next_step(&self.state, client, Some(QpState::Reset), 0) {
             None => Ok(None),
             Some(done) => {
                 self.put(

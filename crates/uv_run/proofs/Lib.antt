@@ -1,7 +1,6 @@
 pub mod Answerings
 pub mod Beginnings
 pub mod Endings
-pub mod KeptLaws
 pub mod MachineLaws
 pub mod NextSteps
 pub mod Outcomes

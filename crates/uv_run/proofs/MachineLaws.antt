@@ -1,19 +1,15 @@
 -- The machine's laws that the run stands on.
 use Rattle.uv_machine.specs.States.{start}
-use Rattle.uv_machine.specs.Laws.{StateGoesOn, LegalGoesOn, StepsRunOut, CallsStandApart, IdleIsQuiet, OwedCovers, SweepBegins, SweepKills, SweepReleases, SweepGoesOn, SweepEnds, SweepShows, OpenIsOpen, PhasesStandApart, FilesStandApart}
-use Rattle.uv_machine.proofs.GoingOn.{state_from-snoc, IsLegalFrom-snoc}
+use Rattle.uv_machine.specs.Laws.{StateGoesOn, StepsRunOut, CallsStandApart, IdleIsQuiet, SweepBegins, SweepKills, SweepReleases, SweepGoesOn, SweepEnds, SweepShows, OpenIsOpen, PhasesStandApart, FilesStandApart}
+use Rattle.uv_machine.proofs.GoingOn.{state_from-snoc}
 use Rattle.uv_machine.proofs.OwnCall.{steps_ahead-step}
 use Rattle.uv_machine.proofs.Apart.{call_of-after, is_quiet-idle}
-use Rattle.uv_machine.proofs.Owing.{owed_after}
 use Rattle.uv_machine.proofs.Phases.{phase_of-opened, phase_of-after}
 use Rattle.uv_machine.proofs.FilesApart.{phase_of-apart}
 use Rattle.uv_machine.proofs.Sweeping.{IsSwept-tear, may_kill-swept, may_go-killed, IsSwept-turn, may_close-swept, object_with-killed}
 
 pub state_goes_on : StateGoesOn
 state_goes_on = state_from-snoc start
-
-pub legal_goes_on : LegalGoesOn
-legal_goes_on = IsLegalFrom-snoc start
 
 pub steps_run_out : StepsRunOut
 steps_run_out = steps_ahead-step
@@ -23,9 +19,6 @@ calls_stand_apart = call_of-after
 
 pub idle_is_quiet : IdleIsQuiet
 idle_is_quiet = is_quiet-idle
-
-pub owed_covers : OwedCovers
-owed_covers = owed_after
 
 pub open_is_open : OpenIsOpen
 open_is_open = phase_of-opened

@@ -19,8 +19,8 @@ use crate::asked::{Asked, asked_of, client_of};
 use crate::machine::Machine;
 use crate::replies::Replies;
 use std::alloc::{AllocError, Global};
-use uv_machine::{Answer, Done, Entry};
-use uv_num::{CELLS, Errno, FIRST_QP_NUMBER, List, NONE, Request, Role};
+use uv_machine::{Answer, Done, Entry, owed_by};
+use uv_num::{CELLS, Errno, FIRST_QP_NUMBER, List, NONE, Request};
 use uv_report::{Said, Saying};
 use uv_script::{Line, Script};
 
@@ -51,18 +51,6 @@ fn saying(answer: Answer) -> Saying
         Answer::Event => Saying::DeviceFatal,
         Answer::Ok | Answer::Kept(_) => Saying::Ok,
         Answer::Refused(errno) => Saying::Refused(errno),
-    }
-}
-
-/// How many entries a call can cause behind its enter: its steps, and what becomes of the object that it makes.
-fn owed_by(request: Request) -> usize
-    ensures { result ≡ call_owes (Some (entered 0 request)) }
-{
-    let looks = request.looks().len();
-    match request.role() {
-        Role::Creates(_) => 2 * looks + 6,
-        Role::Destroys(_) => 4,
-        Role::Acts(_) => 2 * looks + 2,
     }
 }
 

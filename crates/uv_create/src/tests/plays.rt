@@ -3,17 +3,16 @@
 ghost use Rattle.std.specs.Prelude.{◌≡◌, IsTrue, None};
 ghost use Rattle.uv_machine.specs.Histories.{state_of};
 ghost use Rattle.uv_machine.specs.Outside.{open_refusal, enter_refusal};
-ghost use Rattle.uv_graph.specs.Deeds.{told};
 ghost use Rattle.uv_graph.specs.Hands.{ComesPlanted};
 ghost use Rattle.uv_graph.specs.Turns.{IsClient, IsReady, is_create};
 
-use super::deeds::{PlainDeed, full_pools};
 use crate::{planted, step};
 use std::alloc::{AllocError, Global};
-use uv_graph::{Graph, Progress};
-use uv_machine::{Answer, FilePhase, Word};
+use uv_graph::{Graph, Progress, identity_of};
+use uv_machine::{Answer, FilePhase, Readers, Word};
 use uv_num::{Errno, Kind, Request, Role};
 use uv_pool::Deed;
+use uv_pool::plain::{PlainDeed, full_pools};
 
 /// What a step of a create came to.
 #[derive(Clone, Copy, Debug, PartialEq)]
@@ -108,14 +107,14 @@ fn is_ready(graph: &Graph<PlainDeed>, client: u32) -> bool
 
 /// Whether the deed that the client's call has out is planted for the call's new object.
 fn comes_planted(graph: &Graph<PlainDeed>, client: u32, deed: &PlainDeed) -> bool
-    ensures { IsTrue result → ComesPlanted graph.now client (told ⟦<PlainDeed as Deed>⟧.kind_of ⟦<PlainDeed as Deed>⟧.index_of ⟦<PlainDeed as Deed>⟧.generation_of ⟦<PlainDeed as Deed>⟧.is_spent ⟦<PlainDeed as Deed>⟧.is_planted ⟦<PlainDeed as Deed>⟧.identity_of ⟦<PlainDeed as Deed>⟧.lives_of deed.now) }
+    ensures { IsTrue result → ComesPlanted graph.now client (⟦<PlainDeed as Deed>⟧.facts deed.now) }
 {
     let Some(out) = graph.out_of(client) else {
         return false;
     };
     match graph.object_with(out.object) {
         None => false,
-        Some(x) => x.phase.is_made() && deed.is_planted_for(x),
+        Some(x) => x.phase.is_made() && deed.is_planted_for(identity_of(x), x.index, x.generation),
     }
 }
 
@@ -123,7 +122,9 @@ fn comes_planted(graph: &Graph<PlainDeed>, client: u32, deed: &PlainDeed) -> boo
 fn plants(graph: &mut Graph<PlainDeed>, client: u32, object: u32, deed: PlainDeed) -> bool {
     let mut deed = deed;
     if let Some(x) = graph.object_with(object) {
-        deed.plant(x);
+        if deed.plant(identity_of(x)).is_err() {
+            return false;
+        }
     }
     if !comes_planted(graph, client, &deed) {
         return false;

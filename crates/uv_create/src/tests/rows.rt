@@ -1,11 +1,11 @@
 //! What creates come to, step by step.
 
-use super::deeds::PlainDeed;
 use super::plays::{Saw, enters, goes_on, new_graph, opens, unplugs};
 use std::test::Fail;
 use uv_graph::Graph;
-use uv_machine::{Answer, Word};
+use uv_machine::{Answer, Readers, Word};
 use uv_num::{Errno, Kind, Request};
+use uv_pool::plain::PlainDeed;
 
 fn reg_mr(pd: u32) -> Request {
     Request::RegMr {

@@ -4,18 +4,17 @@ ghost use Rattle.std.specs.Prelude.{◌≡◌, ◌↔◌, IsTrue, None, Some};
 ghost use Rattle.uv_machine.specs.declared.entry.Entry.TheVariants as entries;
 ghost use Rattle.uv_machine.specs.Steps.{next_of};
 ghost use Rattle.uv_machine.specs.Histories.{Allowed, state_of};
-ghost use Rattle.uv_graph.specs.Deeds.{told};
 ghost use Rattle.uv_graph.specs.Hands.{ComesPlanted};
 ghost use Rattle.uv_graph.specs.Kept.{out_of};
 ghost use Rattle.uv_graph.specs.Turns.{IsClient, IsReady, IsTouching, is_act, act_finds, role_finds, touches, role_touches};
 
-use super::deeds::{PlainDeed, full_pools};
 use crate::{act, enter, step};
 use std::alloc::{AllocError, Global};
-use uv_graph::{Graph, Progress};
-use uv_machine::{Answer, Done, Word};
+use uv_graph::{Graph, Progress, identity_of};
+use uv_machine::{Answer, Done, Readers, Word};
 use uv_num::{Act, Errno, Kind, NONE, QpState, Request, Role};
 use uv_pool::Deed;
+use uv_pool::plain::{PlainDeed, full_pools};
 
 /// What a step of a call that acts came to.
 #[derive(Clone, Copy, Debug, PartialEq)]
@@ -98,14 +97,14 @@ fn looks(graph: &mut Graph<PlainDeed>, client: u32, object: u32) -> bool
 
 /// Whether the deed that the client's call has out is planted for the call's new object.
 fn comes_planted(graph: &Graph<PlainDeed>, client: u32, deed: &PlainDeed) -> bool
-    ensures { IsTrue result → ComesPlanted graph.now client (told ⟦<PlainDeed as Deed>⟧.kind_of ⟦<PlainDeed as Deed>⟧.index_of ⟦<PlainDeed as Deed>⟧.generation_of ⟦<PlainDeed as Deed>⟧.is_spent ⟦<PlainDeed as Deed>⟧.is_planted ⟦<PlainDeed as Deed>⟧.identity_of ⟦<PlainDeed as Deed>⟧.lives_of deed.now) }
+    ensures { IsTrue result → ComesPlanted graph.now client (⟦<PlainDeed as Deed>⟧.facts deed.now) }
 {
     let Some(out) = graph.out_of(client) else {
         return false;
     };
     match graph.object_with(out.object) {
         None => false,
-        Some(x) => x.phase.is_made() && deed.is_planted_for(x),
+        Some(x) => x.phase.is_made() && deed.is_planted_for(identity_of(x), x.index, x.generation),
     }
 }
 
@@ -123,7 +122,9 @@ fn makes(graph: &mut Graph<PlainDeed>, client: u32, object: u32) -> bool
 fn plants(graph: &mut Graph<PlainDeed>, client: u32, object: u32, deed: PlainDeed) -> bool {
     let mut deed = deed;
     if let Some(x) = graph.object_with(object) {
-        deed.plant(x);
+        if deed.plant(identity_of(x)).is_err() {
+            return false;
+        }
     }
     if !comes_planted(graph, client, &deed) {
         return false;

@@ -3,7 +3,7 @@
 use super::plays::{Saw, acts, asks, goes_on, is_created, new_graph, unplugs};
 use crate::{open, refuse};
 use std::test::Fail;
-use uv_machine::{Answer, Word};
+use uv_machine::{Answer, Readers, Word};
 use uv_num::{Errno, Kind, QpAttrs, QpState, Request};
 
 const WENT_LOOK: Option<Saw> = Some(Saw::Went(Word::Look));

@@ -6,17 +6,16 @@ ghost use Rattle.uv_machine.specs.declared.entry.Entry.TheVariants as entries;
 ghost use Rattle.uv_machine.specs.Laws.{IsIdle};
 ghost use Rattle.uv_machine.specs.Histories.{Allowed, state_of};
 ghost use Rattle.uv_machine.specs.States.{object_with, phase_in, the_call};
-ghost use Rattle.uv_graph.specs.Deeds.{told};
 ghost use Rattle.uv_graph.specs.Hands.{AreOver, ComesBuried, ComesPlanted, is_live_object, is_over};
 ghost use Rattle.uv_graph.specs.Kept.{kill_of, out_of};
 ghost use Rattle.uv_graph.specs.Notes.{IsHuskIf};
 ghost use Rattle.uv_graph.specs.Owns.{is_torn_by, torn_by_object};
 
-use super::deeds::{PlainDeed, full_pools};
-use crate::{Graph, Out};
+use crate::{Graph, Out, identity_of};
 use std::alloc::{AllocError, Global};
-use uv_machine::{Answer, Entry, File, FilePhase, InFlight, Object, State, Word};
+use uv_machine::{Answer, Entry, File, FilePhase, InFlight, Object, Readers, State, Word};
 use uv_num::{Errno, List, NONE, QpState, Request};
+use uv_pool::plain::{PlainDeed, full_pools};
 use uv_pool::{Deed, Pool};
 
 /// What an actor's call has out.
@@ -110,24 +109,24 @@ fn goes(
 
 /// Whether the deed that the client's call has out is planted for the call's new object.
 fn comes_planted(graph: &Graph<PlainDeed>, client: u32, deed: &PlainDeed) -> bool
-    ensures { IsTrue result → ComesPlanted graph.now client (told ⟦<PlainDeed as Deed>⟧.kind_of ⟦<PlainDeed as Deed>⟧.index_of ⟦<PlainDeed as Deed>⟧.generation_of ⟦<PlainDeed as Deed>⟧.is_spent ⟦<PlainDeed as Deed>⟧.is_planted ⟦<PlainDeed as Deed>⟧.identity_of ⟦<PlainDeed as Deed>⟧.lives_of deed.now) }
+    ensures { IsTrue result → ComesPlanted graph.now client (⟦<PlainDeed as Deed>⟧.facts deed.now) }
 {
     let Some(out) = out_of(graph, client) else {
         return false;
     };
     match graph.object_with(out.object) {
         None => false,
-        Some(x) => x.phase.is_made() && deed.is_planted_for(x),
+        Some(x) => x.phase.is_made() && deed.is_planted_for(identity_of(x), x.index, x.generation),
     }
 }
 
 /// Whether the deed that is out for an object is buried.
 fn comes_buried(hand: Option<Out>, object: u32, deed: &PlainDeed) -> bool
-    ensures { (h : List Entry) → IsTrue result → ComesBuried hand object (told ⟦<PlainDeed as Deed>⟧.kind_of ⟦<PlainDeed as Deed>⟧.index_of ⟦<PlainDeed as Deed>⟧.generation_of ⟦<PlainDeed as Deed>⟧.is_spent ⟦<PlainDeed as Deed>⟧.is_planted ⟦<PlainDeed as Deed>⟧.identity_of ⟦<PlainDeed as Deed>⟧.lives_of deed.now) h }
+    ensures { (h : List Entry) → IsTrue result → ComesBuried hand object (⟦<PlainDeed as Deed>⟧.facts deed.now) h }
 {
     match hand {
         None => false,
-        Some(out) => out.object == object && deed.is_buried(out),
+        Some(out) => out.object == object && deed.is_buried(out.kind, out.index, out.generation),
     }
 }
 
@@ -273,7 +272,9 @@ impl Player {
     fn plants(&mut self, client: u32, object: u32, deed: PlainDeed) -> bool {
         let mut deed = deed;
         if let Some(x) = self.graph.object_with(object) {
-            deed.plant(x);
+            if deed.plant(identity_of(x)).is_err() {
+                return false;
+            }
         }
         if !comes_planted(&self.graph, client, &deed) {
             return false;

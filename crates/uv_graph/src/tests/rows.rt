@@ -1,12 +1,12 @@
 //! What the histories show.
 
-use super::deeds::PlainDeed;
 use super::plays::Player;
 use crate::own_stands_apart;
 use std::alloc::{AllocError, Global};
 use std::test::Fail;
-use uv_machine::{Answer, Entry, FilePhase, Word, first_bad};
+use uv_machine::{Answer, Entry, FilePhase, Readers, Word, first_bad};
 use uv_num::{Errno, Kind, List, NONE, Request};
+use uv_pool::plain::PlainDeed;
 use uv_pool::{Deed, Pool};
 
 fn opens(client: u32, file: u32, device: u32, answer: Answer) -> Entry {

@@ -1,10 +1,9 @@
 use Rattle.std.proofs.Common.{sym}
-use Rattle.uv_graph.specs.Deeds.{told}
 use Rattle.uv_destroy.proofs.Burials.{finished}
 use Rattle.uv_destroy.proofs.destroying.finish.Goals as goal
 
 pub returns-clause-finishes : goal.returns-clause-finishes
 returns-clause-finishes g c =
     finished c.args.graph.now c.args.client c.args.kept
-    (told g.D.Deed.kind_of g.D.Deed.index_of g.D.Deed.generation_of g.D.Deed.is_spent g.D.Deed.is_planted g.D.Deed.identity_of g.D.Deed.lives_of c.args.deed)
+    (g.D.Deed.facts c.args.deed)
     c.requires c.in-Some.out (sym c.in-Some.ensures.value) c.in-Some.ensures.has c.finish.new.self c.finish.ensures.notes

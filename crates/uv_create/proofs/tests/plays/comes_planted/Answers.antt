@@ -8,5 +8,5 @@ returns-then-is_made c = λ told. record {
   item = c.in-Some-object_with.x;
   there = sym c.object_with.ensures ∙ c.in-Some-object_with.is;
   made = sym c.is_made.ensures ∙ c.if-is_made.true;
-  deed = c.is_planted_for.ensures _ told;
+  deed = c.is_planted_for.ensures.any _ told;
 }

@@ -5,7 +5,6 @@ use Rattle.uv_machine.specs.declared.entry.Word.TheVariants as word
 use Rattle.uv_machine.specs.declared.entry.Answer.TheVariants as answer
 use Rattle.uv_machine.specs.States.{object_with}
 use Rattle.uv_machine.specs.Histories.{Allowed, state_of}
-use Rattle.uv_graph.specs.Deeds.{told}
 use Rattle.uv_graph.specs.Hands.{HandsPlanted, is_live_object}
 use Rattle.uv_graph.specs.Kept.{Kept, out_of, put_out}
 use Rattle.uv_graph.specs.Slots.{put_slot}
@@ -16,7 +15,7 @@ use Rattle.uv_graph.proofs.graph.Graph.check.Goals as goal
 
 pub unreachable-requires-in-None-take : goal.unreachable-requires-in-None-take
 unreachable-requires-in-None-take g c =
-    let tell = told g.D.Deed.kind_of g.D.Deed.index_of g.D.Deed.generation_of g.D.Deed.is_spent g.D.Deed.is_planted g.D.Deed.identity_of g.D.Deed.lives_of in
+    let tell = g.D.Deed.facts in
     let there : object_with (state_of c.self.inside.log.history) c.args.object ≡ Some c.in-Some.x = sym (c.object_with-found.ensures ∙ ap (λ s. object_with s c.args.object) c.state.ensures) ∙ c.in-Some.is in
     let A : Kept → Type 0 = λ k. Allowed (state_of k.history) (entry.Step c.args.client word.Check c.args.object None answer.Ok) in
     let allowed = subst A (sym c.self.view_is) c.requires.allowed in
@@ -28,7 +27,7 @@ unreachable-requires-in-None-take g c =
 
 pub invariant_of-self : goal.invariant_of-self
 invariant_of-self g c =
-    let tell = told g.D.Deed.kind_of g.D.Deed.index_of g.D.Deed.generation_of g.D.Deed.is_spent g.D.Deed.is_planted g.D.Deed.identity_of g.D.Deed.lives_of in
+    let tell = g.D.Deed.facts in
     let there : object_with (state_of c.self.inside.log.history) c.args.object ≡ Some c.in-Some.x = sym (c.object_with-found.ensures ∙ ap (λ s. object_with s c.args.object) c.state.ensures) ∙ c.in-Some.is in
     let A : Kept → Type 0 = λ k. Allowed (state_of k.history) (entry.Step c.args.client word.Check c.args.object None answer.Ok) in
     let allowed = subst A (sym c.self.view_is) c.requires.allowed in
@@ -40,7 +39,7 @@ invariant_of-self g c =
 
 pub returns-clause-hands : goal.returns-clause-hands
 returns-clause-hands g c =
-    let tell = told g.D.Deed.kind_of g.D.Deed.index_of g.D.Deed.generation_of g.D.Deed.is_spent g.D.Deed.is_planted g.D.Deed.identity_of g.D.Deed.lives_of in
+    let tell = g.D.Deed.facts in
     let there : object_with (state_of c.self.inside.log.history) c.args.object ≡ Some c.in-Some.x = sym (c.object_with-found.ensures ∙ ap (λ s. object_with s c.args.object) c.state.ensures) ∙ c.in-Some.is in
     let A : Kept → Type 0 = λ k. Allowed (state_of k.history) (entry.Step c.args.client word.Check c.args.object None answer.Ok) in
     let allowed = subst A (sym c.self.view_is) c.requires.allowed in

@@ -7,7 +7,6 @@ use Rattle.uv_machine.specs.declared.entry.Word.TheVariants as word
 use Rattle.uv_machine.specs.declared.entry.Answer.TheVariants as answer
 use Rattle.uv_machine.specs.States.{object_with}
 use Rattle.uv_machine.specs.Histories.{Allowed, state_of}
-use Rattle.uv_graph.specs.Deeds.{told}
 use Rattle.uv_graph.specs.Hands.{HandsNew}
 use Rattle.uv_graph.specs.Kept.{Kept, out_of, put_out}
 use Rattle.uv_graph.specs.Slots.{next_deed, after_draw}
@@ -16,18 +15,18 @@ use Rattle.uv_graph.proofs.graph.Graph.make.Goals as goal
 
 pub unreachable-requires : goal.unreachable-requires
 unreachable-requires g c =
-    let tell = told g.D.Deed.kind_of g.D.Deed.index_of g.D.Deed.generation_of g.D.Deed.is_spent g.D.Deed.is_planted g.D.Deed.identity_of g.D.Deed.lives_of in
+    let tell = g.D.Deed.facts in
     let A : Kept → Type 0 = λ k. Allowed (state_of k.history) (entry.Step c.args.client word.Make c.args.object None answer.Ok) in
     let allowed = subst A (sym c.self.view_is) c.requires.allowed in
     let N : Kept → Type 0 = λ k. out_of k c.args.client ≡ None in
     let none = subst N (sym c.self.view_is) c.requires.none in
     let k : Kept = record { history = c.self.inside.log.history; spares = c.self.inside.spares; outs = c.self.inside.outs; kills = c.self.inside.kills } in
-    let there = made_there tell g.D.Deed.is_spent (λ d. refl) c.self.inside.log c.note.new.self k k c.self.inside.pools c.self.inside.pools c.self.inside.held c.self.invariant c.args.client c.args.object allowed none c.note.ensures.history in
+    let there = made_there tell c.self.inside.log c.note.new.self k k c.self.inside.pools c.self.inside.pools c.self.inside.held c.self.invariant c.args.client c.args.object allowed none c.note.ensures.history in
     none-some _ (sym (sym there ∙ sym (c.object_with-made.ensures ∙ ap (λ s. object_with s c.args.object) c.state.ensures) ∙ c.in-None.is))
 
 pub unreachable-requires-in-None-draw : goal.unreachable-requires-in-None-draw
 unreachable-requires-in-None-draw g c =
-    let tell = told g.D.Deed.kind_of g.D.Deed.index_of g.D.Deed.generation_of g.D.Deed.is_spent g.D.Deed.is_planted g.D.Deed.identity_of g.D.Deed.lives_of in
+    let tell = g.D.Deed.facts in
     let A : Kept → Type 0 = λ k. Allowed (state_of k.history) (entry.Step c.args.client word.Make c.args.object None answer.Ok) in
     let allowed = subst A (sym c.self.view_is) c.requires.allowed in
     let N : Kept → Type 0 = λ k. out_of k c.args.client ≡ None in
@@ -35,12 +34,12 @@ unreachable-requires-in-None-draw g c =
     let k : Kept = record { history = c.self.inside.log.history; spares = c.self.inside.spares; outs = c.self.inside.outs; kills = c.self.inside.kills } in
     let k' : Kept = record { history = c.note.new.self.history; spares = c.self.inside.spares; outs = c.set_out.new.outs; kills = c.self.inside.kills } in
     let found : object_with (state_of c.note.new.self.history) c.args.object ≡ Some c.in-Some.x = sym (c.object_with-made.ensures ∙ ap (λ s. object_with s c.args.object) c.state.ensures) ∙ c.in-Some.is in
-    let it = made_is tell g.D.Deed.is_spent (λ d. refl) c.self.inside.log c.note.new.self k k' c.self.inside.pools c.draw.new.pools c.self.inside.held c.self.invariant c.args.client c.args.object allowed none c.note.ensures.history c.in-Some.x found in
-    drawn_some tell g.D.Deed.is_spent (λ d. refl) c.self.inside.log c.note.new.self k k' c.self.inside.pools c.draw.new.pools c.self.inside.held c.self.invariant c.args.client c.args.object allowed none c.note.ensures.history c.in-Some.x found it (sym (c.draw.ensures.deed ∙ ap (λ v. next_deed g.D.Deed.is_spent (slice_get c.self.inside.pools v)) c.place.ensures.place) ∙ c.in-None-draw.is)
+    let it = made_is tell c.self.inside.log c.note.new.self k k' c.self.inside.pools c.draw.new.pools c.self.inside.held c.self.invariant c.args.client c.args.object allowed none c.note.ensures.history c.in-Some.x found in
+    drawn_some tell c.self.inside.log c.note.new.self k k' c.self.inside.pools c.draw.new.pools c.self.inside.held c.self.invariant c.args.client c.args.object allowed none c.note.ensures.history c.in-Some.x found it (sym (c.draw.ensures.deed ∙ ap (λ v. next_deed g.D.Deed.facts (slice_get c.self.inside.pools v)) c.place.ensures.place) ∙ c.in-None-draw.is)
 
 pub invariant_of-self : goal.invariant_of-self
 invariant_of-self g c =
-    let tell = told g.D.Deed.kind_of g.D.Deed.index_of g.D.Deed.generation_of g.D.Deed.is_spent g.D.Deed.is_planted g.D.Deed.identity_of g.D.Deed.lives_of in
+    let tell = g.D.Deed.facts in
     let A : Kept → Type 0 = λ k. Allowed (state_of k.history) (entry.Step c.args.client word.Make c.args.object None answer.Ok) in
     let allowed = subst A (sym c.self.view_is) c.requires.allowed in
     let N : Kept → Type 0 = λ k. out_of k c.args.client ≡ None in
@@ -48,12 +47,12 @@ invariant_of-self g c =
     let k : Kept = record { history = c.self.inside.log.history; spares = c.self.inside.spares; outs = c.self.inside.outs; kills = c.self.inside.kills } in
     let k' : Kept = record { history = c.note.new.self.history; spares = c.self.inside.spares; outs = c.set_out.new.outs; kills = c.self.inside.kills } in
     let found : object_with (state_of c.note.new.self.history) c.args.object ≡ Some c.in-Some.x = sym (c.object_with-made.ensures ∙ ap (λ s. object_with s c.args.object) c.state.ensures) ∙ c.in-Some.is in
-    let it = made_is tell g.D.Deed.is_spent (λ d. refl) c.self.inside.log c.note.new.self k k' c.self.inside.pools c.draw.new.pools c.self.inside.held c.self.invariant c.args.client c.args.object allowed none c.note.ensures.history c.in-Some.x found in
-    make_tied tell g.D.Deed.is_spent (λ d. refl) c.self.inside.log c.note.new.self k k' c.self.inside.pools c.draw.new.pools c.self.inside.held c.self.invariant c.args.client c.args.object allowed none c.note.ensures.history c.in-Some.x found it (c.draw.ensures.pools ∙ ap (λ v. at_place c.self.inside.pools v (after_draw g.D.Deed.is_spent)) c.place.ensures.place) (c.set_out.ensures ∙ ap (λ v. at_place c.self.inside.outs c.args.client (put_out (Some v))) c.out_for.ensures) refl c.note.ensures.legal refl (omega (arith, c.self.invariant.covered, c.note.ensures.spare))
+    let it = made_is tell c.self.inside.log c.note.new.self k k' c.self.inside.pools c.draw.new.pools c.self.inside.held c.self.invariant c.args.client c.args.object allowed none c.note.ensures.history c.in-Some.x found in
+    make_tied tell c.self.inside.log c.note.new.self k k' c.self.inside.pools c.draw.new.pools c.self.inside.held c.self.invariant c.args.client c.args.object allowed none c.note.ensures.history c.in-Some.x found it (c.draw.ensures.pools ∙ ap (λ v. at_place c.self.inside.pools v (after_draw g.D.Deed.facts)) c.place.ensures.place) (c.set_out.ensures ∙ ap (λ v. at_place c.self.inside.outs c.args.client (put_out (Some v))) c.out_for.ensures) refl c.note.ensures.legal refl (omega (arith, c.self.invariant.covered, c.note.ensures.spare))
 
 pub returns-clause-hands : goal.returns-clause-hands
 returns-clause-hands g c =
-    let tell = told g.D.Deed.kind_of g.D.Deed.index_of g.D.Deed.generation_of g.D.Deed.is_spent g.D.Deed.is_planted g.D.Deed.identity_of g.D.Deed.lives_of in
+    let tell = g.D.Deed.facts in
     let A : Kept → Type 0 = λ k. Allowed (state_of k.history) (entry.Step c.args.client word.Make c.args.object None answer.Ok) in
     let allowed = subst A (sym c.self.view_is) c.requires.allowed in
     let N : Kept → Type 0 = λ k. out_of k c.args.client ≡ None in
@@ -61,7 +60,7 @@ returns-clause-hands g c =
     let k : Kept = record { history = c.self.inside.log.history; spares = c.self.inside.spares; outs = c.self.inside.outs; kills = c.self.inside.kills } in
     let k' : Kept = record { history = c.note.new.self.history; spares = c.self.inside.spares; outs = c.set_out.new.outs; kills = c.self.inside.kills } in
     let found : object_with (state_of c.note.new.self.history) c.args.object ≡ Some c.in-Some.x = sym (c.object_with-made.ensures ∙ ap (λ s. object_with s c.args.object) c.state.ensures) ∙ c.in-Some.is in
-    let it = made_is tell g.D.Deed.is_spent (λ d. refl) c.self.inside.log c.note.new.self k k' c.self.inside.pools c.draw.new.pools c.self.inside.held c.self.invariant c.args.client c.args.object allowed none c.note.ensures.history c.in-Some.x found in
+    let it = made_is tell c.self.inside.log c.note.new.self k k' c.self.inside.pools c.draw.new.pools c.self.inside.held c.self.invariant c.args.client c.args.object allowed none c.note.ensures.history c.in-Some.x found in
     let R : Kept → Type 0 = λ v. HandsNew v k' (entry.Step c.args.client word.Make c.args.object None answer.Ok) c.args.client c.args.object (tell c.in-Some-draw.deed) in
     subst R c.self.view_is
     (record {
@@ -69,5 +68,5 @@ returns-clause-hands g c =
       there = found;
       made = it.phase;
       notes = record { history = c.note.ensures.history; spares = refl; outs = (c.set_out.ensures ∙ ap (λ v. at_place c.self.inside.outs c.args.client (put_out (Some v))) c.out_for.ensures); kills = refl };
-      deed = drawn_for tell g.D.Deed.is_spent (λ d. refl) c.self.inside.log c.note.new.self k k' c.self.inside.pools c.draw.new.pools c.self.inside.held c.self.invariant c.args.client c.args.object allowed none c.note.ensures.history c.in-Some.x found it c.in-Some-draw.deed (sym c.in-Some-draw.is ∙ c.draw.ensures.deed ∙ ap (λ v. next_deed g.D.Deed.is_spent (slice_get c.self.inside.pools v)) c.place.ensures.place);
+      deed = drawn_for tell c.self.inside.log c.note.new.self k k' c.self.inside.pools c.draw.new.pools c.self.inside.held c.self.invariant c.args.client c.args.object allowed none c.note.ensures.history c.in-Some.x found it c.in-Some-draw.deed (sym c.in-Some-draw.is ∙ c.draw.ensures.deed ∙ ap (λ v. next_deed g.D.Deed.facts (slice_get c.self.inside.pools v)) c.place.ensures.place);
     })

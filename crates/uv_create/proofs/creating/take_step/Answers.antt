@@ -1,0 +1,15 @@
+use Rattle.std.proofs.Common.{◌≡◌, true, ap, sym, ◌∙◌}
+use Rattle.std.proofs.lemmas.Option.{same_Some}
+use Rattle.uv_num.specs.Request.{role_of}
+use Rattle.uv_graph.specs.Turns.{is_create}
+use Rattle.uv_graph.proofs.Stepped.{word_is}
+use Rattle.uv_create.proofs.Planning.{never}
+use Rattle.uv_create.proofs.creating.take_step.Goals as goal
+
+-- a call that creates makes no word of an act or a destroy
+pub unreachable-requires : goal.unreachable-requires
+unreachable-requires g c =
+    let step = c.requires.step in
+    let same = same_Some c.requires.ready.call step.next.call (sym c.requires.ready.is ∙ step.next.is) in
+    let creates : is_create (role_of step.next.call.request) ≡ true = ap (λ k. is_create (role_of k.request)) (sym same) ∙ c.requires.ready.does_it in
+    never step.next.call creates c.args.done.word (word_is c.args.graph.now c.args.client c.args.done step) c.in-Act.is
