@@ -9,7 +9,7 @@ ghost use Rattle.uv_model.specs.Gone.{torn_file, ends_teardown, of_file, gone_in
 use crate::left::Left;
 use crate::replays::replayed;
 use std::alloc::{AllocError, Global};
-use uv_machine::{Entry, Object, State};
+use uv_machine::{Entry, Object, Readers, State};
 use uv_num::{ENDER, List};
 
 /// The objects that a teardown released, in the order in which they went. The teardown is the one that the entry at
