@@ -17,6 +17,7 @@ mod ids;
 mod kind;
 mod limits;
 mod list;
+mod place;
 mod qp;
 mod request;
 mod room;
@@ -43,6 +44,7 @@ pub use limits::{
     SCRIPT_LINES, SCRIPT_POSTS, WORK_BYTES, WORK_PARTS,
 };
 pub use list::List;
+pub use place::{Changes, Put, change_at};
 pub use qp::{QpState, Service};
 pub use request::{Act, Ask, Request, Role};
 pub use room::Room;
