@@ -8,16 +8,14 @@ ghost use Rattle.uv_graph.specs.Seats.{slot_of};
 ghost use Rattle.uv_graph.specs.Slots.{next_deed, after_draw, put_slot};
 
 use crate::out::Out;
-use uv_num::List;
+use uv_num::{List, Put, change_at};
 use uv_pool::{Deed, Pool};
 
 /// What an actor has out is this from now on.
 pub fn set_out(outs: &mut [Option<Out>], at: usize, out: Option<Out>)
     ensures { outs.new ≡ at_place outs.old at (put_out out) }
 {
-    if at < outs.len() {
-        outs[at] = out;
-    }
+    change_at(outs, at, Put(out));
 }
 
 /// Draws the next deed of the pool at a place.

@@ -3,6 +3,10 @@ use Rattle.std.specs.Prelude.{ℕ, Bool, true, false, nat_le, ◌+◌, ◌%◌, 
 use Rattle.uv_num.specs.declared.limits.TheConstants.{CELLS, MOST_GENERATION}
 use Rattle.uv_num.specs.Place.{at_place}
 use Rattle.uv_machine.specs.declared.pool.Cell.{Cell}
+use Rattle.uv_machine.specs.declared.pool.CellChange.{CellChange}
+use Rattle.uv_machine.specs.declared.pool.CellChange.TheVariants as cell
+use Rattle.uv_machine.specs.declared.pool.PoolChange.{PoolChange}
+use Rattle.uv_machine.specs.declared.pool.PoolChange.TheVariants as pool
 use Rattle.uv_machine.specs.declared.pool.Pool.{Pool}
 
 abbrev pub is_home : Cell → Bool
@@ -31,6 +35,15 @@ drawn i pool = record { cells = at_place pool.cells i sent_out; next = (i + 1) %
 -- a pool whose cell at this index was buried
 abbrev pub buried_at : ℕ → Pool → Pool
 buried_at i pool = record pool { cells = at_place pool.cells i buried }
+
+-- what becomes of a cell, and of the cells of a kind
+abbrev pub cell_changed : CellChange → Cell → Cell
+cell_changed cell.GoesOut = sent_out
+cell_changed cell.Buries = buried
+
+abbrev pub pool_changed : PoolChange → Pool → Pool
+pool_changed (pool.Draws i) = drawn i
+pool_changed (pool.Buries i) = buried_at i
 
 -- the generation of the cell at this index
 abbrev pub generation_from : Option Cell → ℕ

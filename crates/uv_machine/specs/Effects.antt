@@ -22,6 +22,8 @@ use Rattle.uv_machine.specs.declared.object.Change.TheVariants.{ToLive, ToDoomed
 use Rattle.uv_machine.specs.declared.file.FilePhase.{FilePhase}
 use Rattle.uv_machine.specs.declared.file.FilePhase.TheVariants as file
 use Rattle.uv_machine.specs.declared.file.File.{File}
+use Rattle.uv_machine.specs.declared.file.FileChange.{FileChange}
+use Rattle.uv_machine.specs.declared.file.FileChange.TheVariants.{Opens, Goes, TakesEvent, Dissociates}
 use Rattle.uv_machine.specs.declared.pool.Pool.{Pool}
 use Rattle.uv_machine.specs.declared.call.InFlight.{InFlight}
 use Rattle.uv_machine.specs.declared.state.State.{State}
@@ -229,3 +231,10 @@ after_unplug m d = record m { plugged = at_place m.plugged d without_plug }
 -- the driver is through with a file, which is told so by an event
 abbrev pub dissociated : File → File
 dissociated x = record x { phase = file.Dissociated; event = true }
+
+-- what an entry makes of a file
+abbrev pub file_changed : FileChange → File → File
+file_changed (Opens client device) = opened client device
+file_changed (Goes p) = in_phase p
+file_changed TakesEvent = event_taken
+file_changed Dissociates = dissociated

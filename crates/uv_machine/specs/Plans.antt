@@ -17,6 +17,8 @@ use Rattle.uv_machine.specs.declared.entry.Word.TheVariants.{Reserve, Look, Make
 use Rattle.uv_machine.specs.declared.entry.Answer.{Answer}
 use Rattle.uv_machine.specs.declared.entry.Answer.TheVariants as answer
 use Rattle.uv_machine.specs.declared.call.TheConstants.{PLAN_STEPS}
+use Rattle.uv_machine.specs.declared.call.CallChange.{CallChange}
+use Rattle.uv_machine.specs.declared.call.CallChange.TheVariants.{MovesOn, Refused, Reserves, Looks, Makes, Notes, Locks, Unlocks, GivesBack, LetsGo}
 use Rattle.uv_machine.specs.declared.call.InFlight.{InFlight}
 
 -- the steps of a call that meets no refusal, up to its end; it looks at so many objects
@@ -148,3 +150,16 @@ without_number call = record call { reserved = None }
 
 abbrev pub without_look : InFlight → InFlight
 without_look call = record call { looked = ids.ids_behind call.looked }
+
+-- what a step makes of its call
+abbrev pub call_changed : CallChange → InFlight → InFlight
+call_changed MovesOn = moved_on
+call_changed (Refused e) = with_refusal e
+call_changed (Reserves number) = with_number number
+call_changed (Looks o) = with_look o
+call_changed (Makes o outcome) = with_made o outcome
+call_changed (Notes outcome) = with_outcome outcome
+call_changed (Locks o) = with_lock o
+call_changed Unlocks = without_lock
+call_changed GivesBack = without_number
+call_changed LetsGo = without_look

@@ -2,10 +2,10 @@
 
 ghost use Rattle.std.specs.Prelude.{◌≡◌, [], ◌∷◌, ◌++◌, length, replicate, slice_get};
 ghost use Rattle.uv_machine.specs.declared.entry.Word.TheVariants.{Reserve, Look, Make, Commit, Act, Lock, Check, Finish};
-ghost use Rattle.uv_machine.specs.Plans.{entered, plan_of, plan_for, freeing, closing_word, closing, next_word, is_number, locks, looks_at, holds, is_call_on, own_object, looked_at, acted_on, look_ask, call_answer, next_place, moved_on, with_refusal, with_number, with_look, with_made, with_outcome, with_lock, without_lock, without_number, without_look};
+ghost use Rattle.uv_machine.specs.Plans.{entered, plan_of, plan_for, freeing, closing_word, closing, next_word, is_number, locks, looks_at, holds, is_call_on, own_object, looked_at, acted_on, look_ask, call_answer, next_place, moved_on, with_made, call_changed};
 
 use crate::entry::{Answer, Word};
-use uv_num::{Ask, Errno, Ids, NONE, Request, Role};
+use uv_num::{Ask, Changes, Errno, Ids, NONE, Request, Role};
 
 /// A call in flight of one actor.
 #[derive(Clone, Copy, Debug, PartialEq)]
@@ -189,74 +189,91 @@ fn is_number(number: Option<u32>, n: u32) -> bool
     }
 }
 
-/// What the steps of a call leave in it.
+/// What a step makes of its call. A step that goes on by its plan counts its place.
+#[derive(Clone, Copy, Debug)]
+pub(crate) enum CallChange {
+    /// Its step goes on.
+    MovesOn,
+    /// Its step is refused.
+    Refused(Errno),
+    /// A number is set aside for it, if one is free.
+    Reserves(Option<u32>),
+    /// It looks at an object more.
+    Looks(u32),
+    /// The number and the lock are now the new object's, and this is what the call is to tell.
+    Makes(u32, Answer),
+    /// Its act came to this.
+    Notes(Answer),
+    /// It holds an object exclusively.
+    Locks(u32),
+    /// It holds none so any more.
+    Unlocks,
+    /// Its number goes back.
+    GivesBack,
+    /// What it looked at first is let go.
+    LetsGo,
+}
+
 impl InFlight {
-    pub(crate) fn move_on(&mut self)
+    fn move_on(&mut self)
         ensures { self.new ≡ moved_on self.old }
     {
         self.place = next_place(self.place);
     }
 
-    pub(crate) fn refuse(&mut self, errno: Errno)
-        ensures { self.new ≡ with_refusal errno self.old }
-    {
-        self.refusal = Some(errno);
-    }
-
-    pub(crate) fn set_aside(&mut self, number: Option<u32>)
-        ensures { self.new ≡ with_number number self.old }
-    {
-        self.place = next_place(self.place);
-        self.reserved = number;
-    }
-
-    pub(crate) fn look(&mut self, id: u32)
-        ensures { self.new ≡ with_look id self.old }
-    {
-        self.place = next_place(self.place);
-        self.looked = self.looked.and(id);
-    }
-
-    pub(crate) fn take_made(&mut self, id: u32, outcome: Answer)
+    fn take_made(&mut self, id: u32, outcome: Answer)
         ensures { self.new ≡ with_made id outcome self.old }
     {
-        self.place = next_place(self.place);
+        self.move_on();
         self.reserved = None;
         self.locked = Some(id);
         self.outcome = outcome;
     }
 
-    pub(crate) fn note(&mut self, outcome: Answer)
-        ensures { self.new ≡ with_outcome outcome self.old }
+    pub(crate) fn change(&mut self, change: CallChange)
+        ensures { self.new ≡ call_changed change self.old }
     {
-        self.place = next_place(self.place);
-        self.outcome = outcome;
+        match change {
+            CallChange::MovesOn => self.move_on(),
+            CallChange::Refused(errno) => self.refusal = Some(errno),
+            CallChange::Reserves(number) => {
+                self.move_on();
+                self.reserved = number;
+            }
+            CallChange::Looks(id) => {
+                self.move_on();
+                self.looked = self.looked.and(id);
+            }
+            CallChange::Makes(id, outcome) => self.take_made(id, outcome),
+            CallChange::Notes(outcome) => {
+                self.move_on();
+                self.outcome = outcome;
+            }
+            CallChange::Locks(id) => {
+                self.move_on();
+                self.locked = Some(id);
+            }
+            CallChange::Unlocks => {
+                self.move_on();
+                self.locked = None;
+            }
+            CallChange::GivesBack => self.reserved = None,
+            CallChange::LetsGo => self.looked = self.looked.behind(),
+        }
     }
+}
 
-    pub(crate) fn lock(&mut self, id: u32)
-        ensures { self.new ≡ with_lock id self.old }
-    {
-        self.place = next_place(self.place);
-        self.locked = Some(id);
-    }
+/// A call in the table changes where it stands there.
+impl Changes<Option<InFlight>> for CallChange {
+    ghost use Rattle.std.specs.Prelude.{option_map};
+    ghost use Rattle.uv_machine.specs.Plans.{call_changed};
 
-    pub(crate) fn unlock(&mut self)
-        ensures { self.new ≡ without_lock self.old }
-    {
-        self.place = next_place(self.place);
-        self.locked = None;
-    }
+    ghost changed = { λ change. option_map (call_changed change) };
 
-    pub(crate) fn give_back(&mut self)
-        ensures { self.new ≡ without_number self.old }
-    {
-        self.reserved = None;
-    }
-
-    pub(crate) fn let_go(&mut self)
-        ensures { self.new ≡ without_look self.old }
-    {
-        self.looked = self.looked.behind();
+    fn change(self, slot: &mut Option<InFlight>) {
+        if let Some(call) = slot {
+            call.change(self);
+        }
     }
 }
 

@@ -1,24 +1,21 @@
 //! What an entry makes of the state.
 
 ghost use Rattle.std.specs.Prelude.{◌≡◌, filter, map, slice_get};
-ghost use Rattle.uv_num.specs.Place.{at_place};
 ghost use Rattle.uv_machine.specs.Plans.{entered, with_refusal, with_look, with_outcome, without_number, without_look};
-ghost use Rattle.uv_machine.specs.Effects.{refusal_in, left, with_object, with_pool, with_burial, not_with_id, without_object, reserve, next_id, new_object, with_room_for, with_new, generation_in, made_outcome, make_at, make, commit, binding_of, event_taken, act, act_by, lock, check, buried_if_doomed, finish, unless_refused, stepped, with_call, after_step, with_file, opened, in_phase, without_plug, dissociated, gone_from, not_in_file, after_open, after_enter, after_unplug, after_closed};
-ghost use Rattle.uv_machine.specs.Cells.{drawn, buried_at};
+ghost use Rattle.uv_machine.specs.Effects.{refusal_in, left, with_object, with_pool, with_burial, not_with_id, without_object, reserve, next_id, new_object, with_room_for, with_new, generation_in, made_outcome, make_at, make, commit, binding_of, event_taken, act, act_by, lock, check, buried_if_doomed, finish, unless_refused, stepped, with_call, after_step, with_file, in_phase, dissociated, gone_from, not_in_file, after_open, after_enter, after_unplug, after_closed};
 ghost use Rattle.uv_num.specs.Request.{role_of};
 ghost use Rattle.uv_num.specs.Kind.{kind_place};
 ghost use Rattle.uv_machine.specs.States.{call_of, object_with};
 ghost use Rattle.uv_machine.specs.Histories.{after};
 
-use crate::call::InFlight;
+use crate::call::{CallChange, InFlight};
 use crate::entry::{Answer, Entry, Word};
-use crate::file::{File, FilePhase};
+use crate::file::{FileChange, FilePhase};
 use crate::object::{Binding, Change, Object, Phase, change_object};
-use crate::pool::Pool;
+use crate::pool::PoolChange;
 use crate::readers::Readers;
 use crate::state::State;
-use crate::table;
-use uv_num::{Act, Errno, Kind, MOST_OBJECTS, NONE, Request, Role, Room};
+use uv_num::{Act, Errno, Kind, MOST_OBJECTS, NONE, Put, Request, Role, Room, change_at};
 
 impl Answer {
     /// The errno of a refusal.
@@ -41,20 +38,24 @@ impl State {
     fn refuse(&mut self, actor: u32, errno: Errno)
         ensures { self.new ≡ with_call self.old actor (with_refusal errno) }
     {
-        table::refuse(&mut self.calls, actor as usize, errno);
+        change_at(&mut self.calls, actor as usize, CallChange::Refused(errno));
     }
 
     fn leave(&mut self, actor: u32)
         ensures { self.new ≡ left self.old actor }
     {
-        table::leave(&mut self.calls, actor as usize);
+        change_at(&mut self.calls, actor as usize, Put(None));
     }
 
     fn reserve(&mut self, actor: u32, call: InFlight)
         ensures { self.new ≡ reserve self.old actor call }
     {
         let number = self.least_free(call.file);
-        table::set_aside(&mut self.calls, actor as usize, number);
+        change_at(
+            &mut self.calls,
+            actor as usize,
+            CallChange::Reserves(number),
+        );
     }
 
     fn make(&mut self, actor: u32, call: InFlight)
@@ -97,8 +98,12 @@ impl State {
     {
         put_within(&mut self.objects, x);
         self.made = next_id(self.made);
-        draw(&mut self.pools, x.kind.place(), x.index);
-        table::take_made(&mut self.calls, actor as usize, x.id, made_outcome(x));
+        change_at(&mut self.pools, x.kind.place(), PoolChange::Draws(x.index));
+        change_at(
+            &mut self.calls,
+            actor as usize,
+            CallChange::Makes(x.id, made_outcome(x)),
+        );
     }
 
     fn change(&mut self, id: u32, change: Change)
@@ -110,7 +115,7 @@ impl State {
     fn bury(&mut self, x: Object)
         ensures { self.new ≡ with_burial self.old x }
     {
-        bury(&mut self.pools, x.kind.place(), x.index);
+        change_at(&mut self.pools, x.kind.place(), PoolChange::Buries(x.index));
     }
 
     fn remove(&mut self, id: u32)
@@ -123,20 +128,20 @@ impl State {
         ensures { self.new ≡ commit self.old actor id }
     {
         self.change(id, Change::ToLive);
-        table::unlock(&mut self.calls, actor as usize);
+        change_at(&mut self.calls, actor as usize, CallChange::Unlocks);
     }
 
     fn lock(&mut self, actor: u32, id: u32)
         ensures { self.new ≡ lock self.old actor id }
     {
-        table::lock(&mut self.calls, actor as usize, id);
+        change_at(&mut self.calls, actor as usize, CallChange::Locks(id));
     }
 
     fn check(&mut self, actor: u32, id: u32)
         ensures { self.new ≡ check self.old actor id }
     {
         self.change(id, Change::ToDoomed);
-        table::move_on(&mut self.calls, actor as usize);
+        change_at(&mut self.calls, actor as usize, CallChange::MovesOn);
     }
 
     fn bury_if_doomed(&mut self, x: Option<Object>)
@@ -154,31 +159,31 @@ impl State {
     {
         self.bury_if_doomed(self.object_with(id));
         self.remove(id);
-        table::unlock(&mut self.calls, actor as usize);
+        change_at(&mut self.calls, actor as usize, CallChange::Unlocks);
     }
 
     fn give_back(&mut self, actor: u32)
         ensures { self.new ≡ with_call self.old actor without_number }
     {
-        table::give_back(&mut self.calls, actor as usize);
+        change_at(&mut self.calls, actor as usize, CallChange::GivesBack);
     }
 
     fn look(&mut self, actor: u32, id: u32)
         ensures { self.new ≡ with_call self.old actor (with_look id) }
     {
-        table::look(&mut self.calls, actor as usize, id);
+        change_at(&mut self.calls, actor as usize, CallChange::Looks(id));
     }
 
     fn note(&mut self, actor: u32, outcome: Answer)
         ensures { self.new ≡ with_call self.old actor (with_outcome outcome) }
     {
-        table::note(&mut self.calls, actor as usize, outcome);
+        change_at(&mut self.calls, actor as usize, CallChange::Notes(outcome));
     }
 
     fn take_event(&mut self, file: u32)
         ensures { self.new ≡ with_file self.old file event_taken }
     {
-        take_event(&mut self.files, file as usize);
+        change_at(&mut self.files, file as usize, FileChange::TakesEvent);
     }
 
     fn act(&mut self, actor: u32, call: InFlight, answer: Answer, what: Act)
@@ -212,7 +217,7 @@ impl State {
     fn let_go(&mut self, actor: u32)
         ensures { self.new ≡ with_call self.old actor without_look }
     {
-        table::let_go(&mut self.calls, actor as usize);
+        change_at(&mut self.calls, actor as usize, CallChange::LetsGo);
     }
 
     fn go_fine(&mut self, actor: u32, call: InFlight, word: Word, id: u32, answer: Answer)
@@ -318,74 +323,17 @@ fn remove_file(objects: &mut Room<Object, MOST_OBJECTS>, file: u32)
     objects.retain(move |x| x.file != file);
 }
 
-fn draw(pools: &mut [Pool], at: usize, index: u32)
-    ensures { pools.new ≡ at_place pools.old at (drawn index) }
-{
-    if at < pools.len() {
-        pools[at].draw(index);
-    }
-}
-
-fn bury(pools: &mut [Pool], at: usize, index: u32)
-    ensures { pools.new ≡ at_place pools.old at (buried_at index) }
-{
-    if at < pools.len() {
-        pools[at].bury(index);
-    }
-}
-
-fn open_at(files: &mut [File], at: usize, client: u32, device: u32)
-    ensures { files.new ≡ at_place files.old at (opened client device) }
-{
-    if at < files.len() {
-        files[at] = File {
-            phase: FilePhase::Open,
-            device,
-            client,
-            event: false,
-        };
-    }
-}
-
-fn set_phase(files: &mut [File], at: usize, phase: FilePhase)
-    ensures { files.new ≡ at_place files.old at (in_phase phase) }
-{
-    if at < files.len() {
-        files[at].phase = phase;
-    }
-}
-
-fn take_event(files: &mut [File], at: usize)
-    ensures { files.new ≡ at_place files.old at event_taken }
-{
-    if at < files.len() {
-        files[at].event = false;
-    }
-}
-
-fn dissociate(files: &mut [File], at: usize)
-    ensures { files.new ≡ at_place files.old at dissociated }
-{
-    if at < files.len() {
-        files[at].dissociate();
-    }
-}
-
-fn unplug(plugged: &mut [bool], at: usize)
-    ensures { plugged.new ≡ at_place plugged.old at without_plug }
-{
-    if at < plugged.len() {
-        plugged[at] = false;
-    }
-}
-
 /// The entries that no call makes.
 impl State {
     fn open(&mut self, client: u32, file: u32, device: u32, answer: Answer)
         ensures { self.new ≡ after_open self.old client file device answer }
     {
         if answer.refusal().is_none() {
-            open_at(&mut self.files, file as usize, client, device);
+            change_at(
+                &mut self.files,
+                file as usize,
+                FileChange::Opens { client, device },
+            );
         }
     }
 
@@ -393,10 +341,10 @@ impl State {
         ensures { self.new ≡ after_enter self.old client file (entered file request) answer }
     {
         if answer.refusal().is_none() {
-            table::put(
+            change_at(
                 &mut self.calls,
                 client as usize,
-                InFlight::entered(file, request),
+                Put(Some(InFlight::entered(file, request))),
             );
         }
     }
@@ -412,19 +360,19 @@ impl State {
     fn phase(&mut self, file: u32, phase: FilePhase)
         ensures { self.new ≡ with_file self.old file (in_phase phase) }
     {
-        set_phase(&mut self.files, file as usize, phase);
+        change_at(&mut self.files, file as usize, FileChange::Goes(phase));
     }
 
     fn pull(&mut self, device: u32)
         ensures { self.new ≡ after_unplug self.old device }
     {
-        unplug(&mut self.plugged, device as usize);
+        change_at(&mut self.plugged, device as usize, Put(false));
     }
 
     fn dissociate(&mut self, file: u32)
         ensures { self.new ≡ with_file self.old file dissociated }
     {
-        dissociate(&mut self.files, file as usize);
+        change_at(&mut self.files, file as usize, FileChange::Dissociates);
     }
 
     fn release(&mut self, id: u32)
@@ -439,7 +387,11 @@ impl State {
     fn close(&mut self, file: u32)
         ensures { self.new ≡ after_closed self.old file }
     {
-        set_phase(&mut self.files, file as usize, FilePhase::Closed);
+        change_at(
+            &mut self.files,
+            file as usize,
+            FileChange::Goes(FilePhase::Closed),
+        );
         remove_file(&mut self.objects, file);
     }
 

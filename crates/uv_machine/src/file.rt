@@ -1,7 +1,6 @@
 //! An open file of a device, as `struct ib_uverbs_file` of the kernel.
 
-ghost use Rattle.std.specs.Prelude.{◌≡◌};
-ghost use Rattle.uv_machine.specs.Effects.{dissociated};
+use uv_num::Changes;
 
 /// How far a file's life is.
 #[derive(Clone, Copy, Debug, PartialEq)]
@@ -27,12 +26,40 @@ pub struct File {
     pub event: bool,
 }
 
-impl File {
+/// What an entry makes of a file.
+#[derive(Clone, Copy, Debug)]
+pub(crate) enum FileChange {
+    /// A client has opened it on a device.
+    Opens { client: u32, device: u32 },
+    /// Its life goes on.
+    Goes(FilePhase),
+    /// Its event is taken.
+    TakesEvent,
     /// The driver is through with the file, which is told so by an event.
-    pub(crate) fn dissociate(&mut self)
-        ensures { self.new ≡ dissociated self.old }
-    {
-        self.phase = FilePhase::Dissociated;
-        self.event = true;
+    Dissociates,
+}
+
+impl Changes<File> for FileChange {
+    ghost use Rattle.uv_machine.specs.Effects.{file_changed};
+
+    ghost changed = { file_changed };
+
+    fn change(self, file: &mut File) {
+        match self {
+            FileChange::Opens { client, device } => {
+                *file = File {
+                    phase: FilePhase::Open,
+                    device,
+                    client,
+                    event: false,
+                };
+            }
+            FileChange::Goes(phase) => file.phase = phase,
+            FileChange::TakesEvent => file.event = false,
+            FileChange::Dissociates => {
+                file.phase = FilePhase::Dissociated;
+                file.event = true;
+            }
+        }
     }
 }

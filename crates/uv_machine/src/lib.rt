@@ -22,7 +22,6 @@ mod readers;
 mod reads;
 mod state;
 mod steps;
-mod table;
 mod told;
 
 pub use call::{InFlight, PLAN_STEPS};

@@ -1,10 +1,9 @@
 //! The cells of a kind. An object that is no husk has one of them to itself.
 
 ghost use Rattle.std.specs.Prelude.{◌≡◌, ◌<◌, ◌==◌, ◌+◌, ◌%◌, position, take, drop, option_map, IfSome, length};
-ghost use Rattle.uv_num.specs.Place.{at_place};
-ghost use Rattle.uv_machine.specs.Cells.{is_home, first_of_two, home_index, buried, sent_out, drawn, buried_at, generation_at};
+ghost use Rattle.uv_machine.specs.Cells.{is_home, first_of_two, home_index, buried, drawn, buried_at, generation_at};
 
-use uv_num::{CELLS, MOST_GENERATION};
+use uv_num::{CELLS, Changes, MOST_GENERATION, change_at};
 
 /// A cell.
 #[derive(Clone, Copy, Debug, PartialEq)]
@@ -23,6 +22,15 @@ pub struct Pool {
     pub next: u32,
 }
 
+/// What becomes of a cell.
+#[derive(Clone, Copy, Debug)]
+pub(crate) enum CellChange {
+    /// It goes to a new object.
+    GoesOut,
+    /// It is buried.
+    Buries,
+}
+
 impl Cell {
     fn bury(&mut self)
         ensures { self.new ≡ buried self.old }
@@ -32,6 +40,41 @@ impl Cell {
         }
         self.generation += 1;
         self.home = true;
+    }
+}
+
+impl Changes<Cell> for CellChange {
+    ghost use Rattle.uv_machine.specs.Cells.{cell_changed};
+
+    ghost changed = { cell_changed };
+
+    fn change(self, cell: &mut Cell) {
+        match self {
+            CellChange::GoesOut => cell.home = false,
+            CellChange::Buries => cell.bury(),
+        }
+    }
+}
+
+/// What becomes of the cells of a kind.
+#[derive(Clone, Copy, Debug)]
+pub(crate) enum PoolChange {
+    /// The cell at this index goes to a new object.
+    Draws(u32),
+    /// The cell at this index is buried.
+    Buries(u32),
+}
+
+impl Changes<Pool> for PoolChange {
+    ghost use Rattle.uv_machine.specs.Cells.{pool_changed};
+
+    ghost changed = { pool_changed };
+
+    fn change(self, pool: &mut Pool) {
+        match self {
+            PoolChange::Draws(index) => pool.draw(index),
+            PoolChange::Buries(index) => pool.bury(index),
+        }
     }
 }
 
@@ -48,18 +91,18 @@ impl Pool {
     }
 
     /// The cell at this index goes to a new object.
-    pub fn draw(&mut self, index: u32)
+    fn draw(&mut self, index: u32)
         ensures { self.new ≡ drawn index self.old }
     {
-        send_out(&mut self.cells, index as usize);
+        change_at(&mut self.cells, index as usize, CellChange::GoesOut);
         self.next = ((u64::from(index) + 1) % CELLS as u64) as u32;
     }
 
     /// The cell at this index is buried.
-    pub fn bury(&mut self, index: u32)
+    fn bury(&mut self, index: u32)
         ensures { self.new ≡ buried_at index self.old }
     {
-        bury_at(&mut self.cells, index as usize);
+        change_at(&mut self.cells, index as usize, CellChange::Buries);
     }
 
     /// The generation of the cell at this index, 0 where there is none.
@@ -105,20 +148,4 @@ fn home_among(cells: &[Cell], count: usize) -> Option<usize>
     ensures within { IfSome result (λ i. i < length cells.now) }
 {
     cells.iter().take(count).position(|cell| cell.home)
-}
-
-fn send_out(cells: &mut [Cell], at: usize)
-    ensures { cells.new ≡ at_place cells.old at sent_out }
-{
-    if at < cells.len() {
-        cells[at].home = false;
-    }
-}
-
-fn bury_at(cells: &mut [Cell], at: usize)
-    ensures { cells.new ≡ at_place cells.old at buried }
-{
-    if at < cells.len() {
-        cells[at].bury();
-    }
 }
