@@ -20,7 +20,7 @@ mod words;
 
 pub use outcome::Done;
 pub use texts::{fault_text, too_long_text, usage_text};
-pub use top::{run, run_steps};
+pub use top::{run, run_steps, start};
 pub use uv_model::Left;
 pub use uv_report::{Record, Said, Saying};
-pub use words::are_steps;
+pub use words::{are_steps, arguments};

@@ -9,7 +9,7 @@ ghost use Rattle.uv_run.specs.Outcome.{IsEmptyRecord, IsCutShort, WritesUnlessFa
 ghost use Rattle.uv_report.specs.Report.{report_of};
 ghost use Rattle.uv_run.specs.Playing.{FollowsScript};
 ghost use Rattle.uv_run.specs.Texts.{fault_line, too_long_line, usage_line};
-ghost use Rattle.uv_run.specs.Words.{AreSteps};
+ghost use Rattle.uv_run.specs.Words.{AreSteps, AreGivenSteps};
 
 use crate::outcome::Done;
 use crate::play::play;
@@ -47,7 +47,7 @@ fn tell<K: Sink>(sink: &mut K, text: &[u8])
 }
 
 /// Writes a report, and answers the status: 0, or 4 where a fault of the sink cut it short.
-fn written<K: Sink>(sink: &mut K, text: &[u8]) -> u8
+fn write_report<K: Sink>(sink: &mut K, text: &[u8]) -> u8
     ensures statuses { (result ≡ 0) ⊎ (result ≡ 4) }
     ensures whole { result ≡ 0 → Appends (K.written sink.old) (K.written sink.new) text.now }
     ensures part { result ≡ 4 → IsCutShort (K.written sink.old) (K.written sink.new) (K.faults sink.old) (K.faults sink.new) text.now }
@@ -76,7 +76,7 @@ fn run_lines<K: Sink>(alloc: Global, script: &Script, sink: &mut K) -> Done
     let Ok(text) = write(alloc, script, &told) else {
         return ended(alloc, 5);
     };
-    let status = written(sink, text.as_slice());
+    let status = write_report(sink, text.as_slice());
     Done { status, told }
 }
 
@@ -167,7 +167,7 @@ fn tell_usage<K: Sink>(alloc: Global, sink: &mut K) -> Done
 ///
 /// What comes first decides: reading, then the language, then the run, then writing. Nothing is run of a script that has
 /// a line outside the language. Where the sink fails as the text of another status than 0 is written, that status
-/// stays. Want of memory is status 5; where the call of one line meets it, that line is answered `ENOMEM`.
+/// stays. Status 5 means out of memory; where the call of one line meets that, the line is answered `ENOMEM`.
 pub fn run_steps<S: Source, K: Sink>(alloc: Global, source: &mut S, sink: &mut K) -> Done
     ensures statuses { IsStepsStatus result.status }
     ensures done { result.status ≡ 0 → Reports (S.left source.old) (S.left source.new) (K.written sink.old) (K.written sink.new) result.told }
@@ -192,7 +192,7 @@ pub fn run_steps<S: Source, K: Sink>(alloc: Global, source: &mut S, sink: &mut K
 
 /// Runs the program that the words ask for: `steps` reads a script, runs it on one thread and writes its report.
 ///
-/// `words` are those behind the program's name. Words that are no form are status 2, and then the source isn't read.
+/// `words` are those after the program's name. Words that are no form are status 2, and then the source isn't read.
 /// Neither `rt` nor `gate` is used by the one form that there is.
 pub fn run<R: Threads + Wait + Sync, S: Source, K: Sink, G: Gate>(
     rt: &R,
@@ -226,11 +226,54 @@ pub fn run<R: Threads + Wait + Sync, S: Source, K: Sink, G: Gate>(
     // A script that is left is run where neither fails, memory aside.
     ensures complete { AreSteps words.now.items → IsScriptLeft (S.left source.old) → ¬ Rose (S.faults source.old) (S.faults source.new) → ¬ Rose (K.faults sink.old) (K.faults sink.new) → IsRunOrNoMemory result.status }
 {
+    // One thread needs neither: they are for the forms of words that start threads.
     let _ = rt;
     let _ = gate;
     if are_steps(words) {
         run_steps(alloc, source, sink)
     } else {
         tell_usage(alloc, sink)
+    }
+}
+
+/// Runs the program as it was started: by its words, where they could be had. Words that can't be had are wrong words.
+///
+/// This is what a program's `main` calls, so its clauses are those of `run`. They couldn't be had where one of them isn't
+/// text, or where there was no memory for them.
+pub fn start<R: Threads + Wait + Sync, S: Source, K: Sink, G: Gate>(
+    rt: &R,
+    alloc: Global,
+    words: Option<Vec<String>>,
+    source: &mut S,
+    sink: &mut K,
+    gate: &G,
+) -> Done
+    ensures statuses { IsStepsStatus result.status ⊎ (result.status ≡ 2) }
+    ensures done { result.status ≡ 0 → Reports (S.left source.old) (S.left source.new) (K.written sink.old) (K.written sink.new) result.told }
+    ensures fault { result.status ≡ 1 → RefusesScript (S.left source.old) (S.left source.new) (K.written sink.old) (K.written sink.new) (K.faults sink.old) (K.faults sink.new) }
+
+    // The words are wrong exactly where the status is 2. Then nothing is read.
+    ensures words { AreGivenSteps words → result.status ≢ 2 }
+    ensures usage { ¬ AreGivenSteps words → result.status ≡ 2 }
+    ensures usage_unread { result.status ≡ 2 → source.new ≡ source.old }
+    ensures usage_text { result.status ≡ 2 → WritesUnlessFault (K.written sink.old) (K.written sink.new) (K.faults sink.old) (K.faults sink.new) usage_line }
+    ensures reading { result.status ≡ 3 → FailsReading (S.left source.old) (S.left source.new) (S.faults source.old) (S.faults source.new) }
+    ensures writing { result.status ≡ 4 → ReportsCutShort (S.left source.old) (S.left source.new) (K.written sink.old) (K.written sink.new) (K.faults sink.old) (K.faults sink.new) result.told }
+    ensures memory { result.status ≡ 5 → ReadsPrefix (S.left source.old) (S.left source.new) (SCRIPT_BYTES + 1) }
+    ensures length { result.status ≡ 6 → RefusesLength (S.left source.old) (S.left source.new) (K.written sink.old) (K.written sink.new) (K.faults sink.old) (K.faults sink.new) }
+
+    // Nothing is written of a read that failed, or where memory ran out.
+    ensures silent_reading { result.status ≡ 3 → sink.new ≡ sink.old }
+    ensures silent_memory { result.status ≡ 5 → sink.new ≡ sink.old }
+    ensures told { result.status ≢ 0 → result.status ≢ 4 → IsEmptyRecord result.told }
+    ensures later_source { S.faults source.old ≤ S.faults source.new }
+    ensures later_sink { K.faults sink.old ≤ K.faults sink.new }
+
+    // A script that is left is run where neither fails, memory aside.
+    ensures complete { AreGivenSteps words → IsScriptLeft (S.left source.old) → ¬ Rose (S.faults source.old) (S.faults source.new) → ¬ Rose (K.faults sink.old) (K.faults sink.new) → IsRunOrNoMemory result.status }
+{
+    match words {
+        Some(words) => run(rt, alloc, &words, source, sink, gate),
+        None => tell_usage(alloc, sink),
     }
 }
