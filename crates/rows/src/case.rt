@@ -1,5 +1,8 @@
 //! A case of the list, and the lines that begin and end one.
 
+ghost use Rattle.std.specs.Prelude.{◌≡◌, OnOk};
+ghost use Rattle.rows.specs.Cases.{with_line, ended_script};
+
 use std::alloc::{AllocError, Global};
 use uv_num::Bytes;
 
@@ -37,15 +40,20 @@ impl Case {
         }))
     }
 
-    /// Puts a line and its line feed behind the script.
-    pub fn put(&mut self, line: &str) -> Result<(), AllocError> {
+    /// Puts a line and its line feed at the end of the script.
+    pub fn put(&mut self, line: &str) -> Result<(), AllocError>
+        ensures script { OnOk result (self.new.script.items ≡ with_line self.old.script.items line.now) }
+        ensures name { self.new.name ≡ self.old.name }
+        ensures wanted { self.new.wanted ≡ self.old.wanted }
+        ensures words { self.new.words ≡ self.old.words }
+    {
         self.script.extend_from_slice(line.as_bytes())?;
         self.script.push(b'\n')?;
         Ok(())
     }
 }
 
-/// How a line ends the script in front of it.
+/// How a line ends the script before it.
 #[derive(Clone, Copy, Debug, PartialEq)]
 pub enum End {
     /// The last line of the script has its line feed: `===`.
@@ -65,13 +73,13 @@ impl End {
     }
 
     /// The bytes of a script that ends so.
-    pub fn ended(self, mut script: Vec<u8>) -> Bytes {
+    pub fn ended(self, mut script: Vec<u8>) -> Bytes
+        ensures { result.bytes ≡ ended_script self script.items }
+    {
         match self {
             End::Whole => {}
-            // The line feed was put behind the last line as behind every other.
-            End::Cut => {
-                let _ = script.pop();
-            }
+            // The line feed was put after the last line as after every other.
+            End::Cut => script.truncate(script.len().saturating_sub(1)),
         }
         Bytes::from_vec(script)
     }
