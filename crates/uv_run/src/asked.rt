@@ -35,7 +35,7 @@ pub fn client_of(form: Form) -> u32
     }
 }
 
-/// The handle that a word stands for, behind these replies.
+/// The handle that a word stands for, after these replies.
 fn handle_of(replies: &Replies, handle: Handle) -> u32
     ensures { result ≡ handle_of replies.now handle }
 {
@@ -58,7 +58,7 @@ fn asked_by(file: u32, command: Result<Request, Errno>) -> Asked
     }
 }
 
-/// What a line asks for, behind these replies.
+/// What a line asks for, after these replies.
 pub fn asked_of(replies: &Replies, form: Form) -> Asked
     requires { HasRanges form }
     ensures asked { result ≡ asked_of replies.now form }

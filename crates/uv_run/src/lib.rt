@@ -1,8 +1,8 @@
 //! A run: a script is read, its lines are played on the object-graph machine, and the report of what became of them
 //! is written.
 //!
-//! The layer above calls `run`, whose clauses speak by `script_of`, the lines of a script's bytes, by `FollowsScript`, what
-//! a record has to do with lines, and by `report_of`, the bytes of a report.
+//! A program's `main` calls `start`, which has the clauses of `run`. They speak by `script_of`, the lines of a script's
+//! bytes, by `FollowsScript`, what a record has to do with lines, and by `report_of`, the bytes of a report.
 #![tactic(auto)]
 
 mod asked;

@@ -174,7 +174,7 @@ fn call(machine: &mut Machine, client: u32, file: u32, request: Request) -> Answ
     }
 }
 
-/// Does what a client asks for, and tells the answer.
+/// Does what a client asks for, and returns the answer.
 fn ask(machine: &mut Machine, client: u32, asked: Asked) -> Answer
     requires client { IsClient client }
     requires reach { IsInReach asked }
@@ -191,7 +191,7 @@ fn ask(machine: &mut Machine, client: u32, asked: Asked) -> Answer
     }
 }
 
-/// Plays a line behind these replies, and tells its own.
+/// Plays a line after these replies, and returns its own.
 fn play_line(machine: &mut Machine, replies: &Replies, line: Line) -> Saying
     requires range { IsInRange line }
     requires between { IsBetween machine.old.history }
@@ -205,7 +205,7 @@ fn play_line(machine: &mut Machine, replies: &Replies, line: Line) -> Saying
     saying(ask(machine, client, asked))
 }
 
-/// Plays the lines of a script, and tells their replies.
+/// Plays the lines of a script, and returns their replies.
 pub fn play_lines(
     alloc: Global,
     machine: &mut Machine,

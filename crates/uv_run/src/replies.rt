@@ -42,7 +42,7 @@ impl Replies {
         }
     }
 
-    /// Puts a reply behind the others. On an error nothing changes.
+    /// Puts a reply after the others. On an error nothing changes.
     pub fn put(&mut self, said: Said) -> Result<(), AllocError>
         ensures ok { OnOk result (self.new ≡ self.old ++ said ∷ []) }
         ensures err { OnErr result (self.new ≡ self.old) }
@@ -59,7 +59,7 @@ impl Replies {
         Ok(())
     }
 
-    /// The handle that the create on this line was given, as the last of its texts tells it. `NONE` where it was refused.
+    /// The handle that the create on this line was given, as the last of its texts says. `NONE` where it was refused.
     pub fn given(&self, line: u32) -> u32
         ensures { result ≡ given self.now line }
     {
@@ -76,7 +76,7 @@ impl Replies {
     }
 }
 
-/// The handle that a text tells, or `NONE`.
+/// The handle that a text has, or `NONE`.
 fn handle_told(text: Saying) -> u32
     ensures { result ≡ handle_told text }
 {
