@@ -53,6 +53,7 @@ impl Replies {
             .insert(said.line, handle_told(said.text))
             .is_err()
         {
+            // List and handles are put together, or neither is.
             let _ = self.said.pop();
             return Err(AllocError);
         }
@@ -71,6 +72,7 @@ impl Replies {
         ensures { result ≡ self }
     {
         let Replies { said, handles } = self;
+        // They can be read off the list again.
         let _ = handles;
         said
     }

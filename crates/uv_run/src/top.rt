@@ -43,6 +43,7 @@ fn tell<K: Sink>(sink: &mut K, text: &[u8])
     ensures text { WritesUnlessFault (K.written sink.old) (K.written sink.new) (K.faults sink.old) (K.faults sink.new) text.now }
     ensures later { K.faults sink.old ≤ K.faults sink.new }
 {
+    // A fault of the sink doesn't change the status here: its count of faults tells it.
     let _ = write_all(sink, text);
 }
 
