@@ -2,8 +2,9 @@
 
 ghost use Rattle.std.specs.Prelude.{◌≡◌, ◌≤◌, ◌<◌, ◌==◌, [], length, slice_get, IfOk, IfErr, IsErr, OnOk, ◌↔◌};
 ghost use Rattle.std.specs.Option.{option_copied};
+ghost use Rattle.uv_num.specs.declared.limits.TheConstants.{QUEUE_DEPTH};
 ghost use Rattle.uv_queue.specs.Order.{oldest};
-ghost use Rattle.uv_queue.specs.Queued.{after_push, after_pop};
+ghost use Rattle.uv_queue.specs.Queued.{after_push, after_pop, emptied};
 
 use std::alloc::{AllocError, Global};
 use std::marker::Model;
@@ -66,6 +67,14 @@ impl<W> WorkQueue<W> {
         self.depth
     }
 
+    /// The works, the oldest first.
+    pub fn as_slice(&self) -> &[W]
+        ensures works { result.now ≡ self.now.works }
+        ensures few { length result.now ≤ QUEUE_DEPTH }
+    {
+        self.works.as_slice()
+    }
+
     /// The work at a place, the oldest being at 0; None exactly where none stands there.
     pub fn at(&self, place: u32) -> Option<&W>
         ensures { option_copied result ≡ slice_get self.now.works place }
@@ -99,6 +108,13 @@ impl<W: Drop> WorkQueue<W> {
         self.works.put(work);
         Ok(())
     }
+
+    /// Lets all works go, as a queue pair does that is reset. The depth stays.
+    pub fn clear(&mut self)
+        ensures { self.new ≡ emptied self.old }
+    {
+        self.works.clear();
+    }
 }
 
 #[cfg(test)]
@@ -117,6 +133,7 @@ mod tests {
         assert_eq!(rt; queue.at(0), Some(&5));
         assert_eq!(rt; queue.at(1), Some(&6));
         assert_eq!(rt; queue.at(2), None);
+        assert_eq!(rt; queue.as_slice(), [5, 6].as_slice());
         assert_eq!(rt; queue.len(), 2);
         assert_eq!(rt; queue.pop(), Some(5));
         assert_eq!(rt; queue.pop(), Some(6));
@@ -132,6 +149,9 @@ mod tests {
         assert_eq!(rt; queue.push(5), Err(5));
         assert_eq!(rt; queue.pop(), Some(4));
         assert_eq!(rt; queue.push(5), Ok(()));
+        queue.clear();
+        assert_eq!(rt; queue.len(), 0);
+        assert_eq!(rt; queue.push(6), Ok(()));
         Ok(())
     }
 
