@@ -8,11 +8,11 @@ use Rattle.uv_num.proofs.Prefixes.{IsPrefix_refl, IsPrefix_trans, IsPrefix-appen
 use Rattle.uv_region.specs.declared.action.Why.{Why}
 use Rattle.uv_region.specs.declared.action.Why.TheVariants as why
 use Rattle.uv_region.specs.Actions.{PlainAction, is_read, IsWhole, CanBeMade}
-use Rattle.uv_region.specs.Refusals.{Terms, IsAllowed, is_inside, has_its_right, passes}
+use Rattle.uv_region.specs.Refusals.{Terms, IsAllowed, first_refusal, demand_of, is_inside, has_its_right, passes}
 use Rattle.uv_region.specs.Registered.{Registered}
 use Rattle.uv_region.specs.Replay.{standing, overwritten, effect, replay_from, replay_of}
-use Rattle.uv_region.specs.Journals.{PlainJournal, journal_of, terms_in, IsJournal, GoesOn}
-use Rattle.uv_region.specs.Laws.{PassesAll}
+use Rattle.uv_region.specs.Journals.{PlainJournal, journal_of, terms_at, AllowedFrom, IsJournal, GoesOn}
+use Rattle.uv_region.specs.Laws.{PassesAll, RefusedFor}
 use Rattle.uv_region.specs.Acting.{after, journalled}
 use Rattle.uv_region.proofs.Keeping.{allowed_inside, length_after}
 
@@ -30,6 +30,9 @@ goes_on_trans i j k p q = record {
 
 pub acted_on : (r : Registered) (a : PlainAction) → GoesOn (journal_of r) (journal_of (after r a))
 acted_on r a = record { object = refl; domain = refl; length = refl; rights = refl; actions = IsPrefix-append r.actions (journalled a r.bytes ∷ []) }
+
+bool_apart : true ≡ false → ⊥
+bool_apart h = cc
 
 -- four tests in turn
 abbrev chain : Bool → Bool → Bool → Bool → Option Why
@@ -54,16 +57,28 @@ none_refuses true true true true p q r s = refl
 
 to_all : (t : Terms) (a : PlainAction) → IsAllowed t a → PassesAll t a
 to_all t a allowed =
-    let (bounds, right, domain, window) = all_pass (is_inside t.length a) (has_its_right t.rights a.kind a.window) (t.domain == a.domain) (passes a.window a) allowed in
+    let (bounds, right, domain, window) = all_pass (is_inside t.length (demand_of a)) (has_its_right t.rights a.kind a.window) (t.domain == a.domain) (passes a.window (demand_of a)) allowed in
     record { bounds = leb-true (a.offset + a.length) t.length bounds; right = right; domain = eqb-true t.domain a.domain domain; window = window }
 
 from_all : (t : Terms) (a : PlainAction) → PassesAll t a → IsAllowed t a
 from_all t a all =
-    none_refuses (is_inside t.length a) (has_its_right t.rights a.kind a.window) (t.domain == a.domain) (passes a.window a)
+    none_refuses (is_inside t.length (demand_of a)) (has_its_right t.rights a.kind a.window) (t.domain == a.domain) (passes a.window (demand_of a))
     (le-leb (a.offset + a.length) t.length all.bounds) all.right (eq-eqb t.domain a.domain all.domain) all.window
 
 pub passes_all : (t : Terms) (a : PlainAction) → IsAllowed t a ↔ PassesAll t a
 passes_all t a = (to_all t a, from_all t a)
+
+-- what a refusal says of each test
+refused_by : (t : Terms) (a : PlainAction) (p q r s : Bool) → is_inside t.length (demand_of a) ≡ p → has_its_right t.rights a.kind a.window ≡ q → (t.domain == a.domain) ≡ r → passes a.window (demand_of a) ≡ s → RefusedFor t a (chain p q r s)
+refused_by t a false q r s b h d w = λ inside. bool_apart (sym (le-leb (a.offset + a.length) t.length inside) ∙ b)
+refused_by t a true false r s b h d w = (leb-true (a.offset + a.length) t.length b, h)
+refused_by t a true true false s b h d w = (leb-true (a.offset + a.length) t.length b, h, λ same. bool_apart (sym (eq-eqb t.domain a.domain same) ∙ d))
+refused_by t a true true true false b h d w = (leb-true (a.offset + a.length) t.length b, h, eqb-true t.domain a.domain d, w)
+refused_by t a true true true true b h d w = record { bounds = leb-true (a.offset + a.length) t.length b; right = h; domain = eqb-true t.domain a.domain d; window = w }
+
+pub refused_in_turn : (t : Terms) (a : PlainAction) → RefusedFor t a (first_refusal t a)
+refused_in_turn t a =
+    refused_by t a (is_inside t.length (demand_of a)) (has_its_right t.rights a.kind a.window) (t.domain == a.domain) (passes a.window (demand_of a)) refl refl refl refl
 
 -- what stands behind a piece that was put over the first bytes
 behind : (piece bytes : List ℕ) (n : ℕ) → length piece ≤ n → length piece ≤ length bytes → slice_get (piece ++ drop (length piece) bytes) n ≡ slice_get bytes n
@@ -109,12 +124,12 @@ written_by false a bytes writes all inside =
 pub written_there : (a : PlainAction) (bytes : List ℕ) → is_read a.kind ≡ false → CanBeMade a → a.offset + a.length ≤ length bytes → standing a (effect a bytes) ≡ a.bytes
 written_there a bytes writes can inside = written_by (is_read a.kind) a bytes writes (can.brings writes) inside
 
-replay_length : (t : Terms) (bytes : List ℕ) (actions : List PlainAction) → length bytes ≡ t.length → Each (IsAllowed t) actions → Each IsWhole actions → length (replay_from bytes actions) ≡ t.length
-replay_length t bytes [] all allowed whole = all
-replay_length t bytes (a ∷ rest) all allowed whole =
-    let inside : a.offset + a.length ≤ length bytes = subst (λ (n : ℕ). a.offset + a.length ≤ n) (sym all) (allowed_inside t a allowed.0) in
+replay_length : (j : PlainJournal) (place : ℕ) (bytes : List ℕ) (actions : List PlainAction) → length bytes ≡ j.length → AllowedFrom (terms_at j) place actions → Each IsWhole actions → length (replay_from bytes actions) ≡ j.length
+replay_length j place bytes [] all allowed whole = all
+replay_length j place bytes (a ∷ rest) all allowed whole =
+    let inside : a.offset + a.length ≤ length bytes = subst (λ (n : ℕ). a.offset + a.length ≤ n) (sym all) (allowed_inside (terms_at j place) a allowed.0) in
     let can : CanBeMade a = record { some = whole.0.some; brings = λ h. whole.0.all } in
-    replay_length t (effect a bytes) rest (length_after (is_read a.kind) a bytes refl can inside ∙ all) allowed.1 whole.1
+    replay_length j (place + 1) (effect a bytes) rest (length_after (is_read a.kind) a bytes refl can inside ∙ all) allowed.1 whole.1
 
 pub length-replay_of : (j : PlainJournal) → IsJournal j → length (replay_of j.length j.actions) ≡ j.length
-length-replay_of j is = replay_length (terms_in j) (replicate j.length 0) j.actions (length-replicate j.length 0) is.allowed is.whole
+length-replay_of j is = replay_length j 0 (replicate j.length 0) j.actions (length-replicate j.length 0) is.allowed is.whole

@@ -1,5 +1,5 @@
 -- What is true of every region stays so by an action.
-use Rattle.std.proofs.Common.{◌≡◌, ℕ, ◌+◌, ◌≤◌, Bool, true, false, List, [], ◌∷◌, ◌++◌, length, map, replicate, refl, ap, sym, subst, ◌∙◌, arith, rules, Option, Some, None}
+use Rattle.std.proofs.Common.{◌≡◌, ℕ, ◌+◌, ◌≤◌, Bool, true, false, List, [], ◌∷◌, ◌++◌, length, map, replicate, refl, ap, sym, subst, ◌∙◌, arith, rules}
 use Rattle.std.proofs.lemmas.List.{map-append}
 use Rattle.std.specs.Prelude.{if◌then◌else◌}
 use Rattle.uv_num.specs.Stocked.{Stocked}
@@ -7,11 +7,10 @@ use Rattle.uv_num.proofs.EachLaws.{Each-push}
 use Rattle.uv_region.specs.declared.action.Action.{Action}
 use Rattle.uv_region.specs.declared.rights.Rights.{Rights}
 use Rattle.uv_region.specs.Actions.{PlainAction, plain, is_read, IsWhole, CanBeMade}
-use Rattle.uv_region.specs.declared.action.Window.{Window}
-use Rattle.uv_region.specs.Refusals.{Terms, IsAllowed, first_refusal, passes}
+use Rattle.uv_region.specs.Refusals.{Terms, IsAllowed, first_refusal}
 use Rattle.uv_region.specs.Registered.{Registered, registered, terms_of}
 use Rattle.uv_region.specs.Replay.{standing, effect, replay_of, HoldsRead, overwritten}
-use Rattle.uv_region.specs.Journals.{IsKept}
+use Rattle.uv_region.specs.Journals.{AllowedFrom, IsKept}
 use Rattle.uv_region.specs.Acting.{journalled, after}
 use Rattle.uv_region.proofs.Replaying.{replay_from-snoc, ReadsHold-snoc, length-standing, length-overwritten}
 
@@ -19,20 +18,30 @@ use Rattle.uv_region.proofs.Replaying.{replay_from-snoc, ReadsHold-snoc, length-
 pub allowed_inside : (t : Terms) (a : PlainAction) → IsAllowed t a → a.offset + a.length ≤ t.length
 allowed_inside t a allowed = search rules
 
--- windows look at no bytes
-passes_bytes : (w : Option Window) (a : PlainAction) (x : List ℕ) → passes w (record a { bytes = x }) ≡ passes w a
-passes_bytes None a x = refl
-passes_bytes (Some w) a x = refl
-
 -- what the journal holds of an action is allowed where the action is
 held_allowed : (reads : Bool) (t : Terms) (a : PlainAction) (x : List ℕ) → first_refusal t (if reads then record a { bytes = x } else a) ≡ first_refusal t a
-held_allowed true t a x = rw (passes_bytes a.window a x) refl
+held_allowed true t a x = refl
 held_allowed false t a x = refl
+
+-- one action more, which the terms at its place allow
+pub AllowedFrom-push : (t : ℕ → Terms) (n : ℕ) (xs : List PlainAction) (y : PlainAction) → AllowedFrom t n xs → IsAllowed (t (n + length xs)) y → AllowedFrom t n (xs ++ y ∷ [])
+AllowedFrom-push t n [] y each one =
+    let same : n + 0 ≡ n = omega arith in
+    let P : ℕ → Type 0 = λ k. IsAllowed (t k) y in
+    (subst P same one, tt)
+AllowedFrom-push t n (x ∷ xs) y each one =
+    let same : n + length (x ∷ xs) ≡ n + 1 + length xs = omega arith in
+    let P : ℕ → Type 0 = λ k. IsAllowed (t k) y in
+    (each.0, AllowedFrom-push t (n + 1) xs y each.1 (subst P same one))
 
 -- it does the same
 held_effect : (reads : Bool) (a : PlainAction) (x bytes : List ℕ) → is_read a.kind ≡ reads → effect (if reads then record a { bytes = x } else a) bytes ≡ effect a bytes
 held_effect true a x bytes is = rw is refl
 held_effect false a x bytes is = refl
+
+-- a read leaves the bytes as they are
+pub read_leaves : (a : PlainAction) (bytes : List ℕ) → is_read a.kind ≡ true → bytes ≡ effect a bytes
+read_leaves a bytes reads = rw reads refl
 
 -- it is whole
 held_whole : (reads : Bool) (a : PlainAction) (bytes : List ℕ) → is_read a.kind ≡ reads → CanBeMade a → a.offset + a.length ≤ length bytes → IsWhole (if reads then record a { bytes = standing a bytes } else a)
@@ -62,7 +71,7 @@ kept_after r a kept allowed can =
       journal = record {
         same = refl;
         lawful = record {
-          allowed = Each-push (IsAllowed (terms_of r)) r.actions one kept.journal.lawful.allowed (held_allowed reads (terms_of r) a (standing a r.bytes) ∙ allowed);
+          allowed = AllowedFrom-push (λ place. terms_of r) 0 r.actions one kept.journal.lawful.allowed (held_allowed reads (terms_of r) a (standing a r.bytes) ∙ allowed);
           whole = Each-push IsWhole r.actions one kept.journal.lawful.whole (held_whole reads a r.bytes refl can inside);
           reads = ReadsHold-snoc (replicate r.length 0) r.actions one kept.journal.lawful.reads (subst (λ (b : List ℕ). HoldsRead b one) turn (held_reads reads a r.bytes refl));
         };

@@ -1,8 +1,9 @@
 -- Laws of regions by key: what a region put into an empty place, and one taken out of its place, leave of the others.
-use Rattle.std.proofs.Common.{◌≡◌, ℕ, zero, suc, ◌+◌, ◌<◌, Bool, true, false, cond, List, [], ◌∷◌, ◌++◌, length, take, get_or, refl, ap, sym, subst, ◌∙◌, arith, Option, Some, None, length-append, length-set}
+use Rattle.std.proofs.Common.{◌≡◌, ℕ, zero, suc, ◌+◌, ◌-◌, ◌<◌, ◌≤◌, Bool, true, false, cond, List, [], ◌∷◌, ◌++◌, length, take, get_or, refl, ap, sym, subst, ◌∙◌, arith, Option, Some, None, length-append, length-set}
 use Rattle.std.proofs.lemmas.Bool.{eqb-true}
 use Rattle.std.proofs.lemmas.Cmp.{nat_cmp_total, tied_itself}
 use Rattle.std.proofs.lemmas.List.{take_more}
+use Rattle.std.proofs.lemmas.Option.{slice_get-get_or, slice_get_within}
 use Rattle.std.specs.Cmp.{unsigned_tied}
 use Rattle.std.specs.FinMap as map
 use Rattle.std.specs.FinMap.{find, nat_cmp-IsAntisymmetric}
@@ -10,13 +11,13 @@ use Rattle.std.specs.Ordering.{nat_cmp, eq_by_cmp, is_eq}
 use Rattle.std.specs.Prelude.{slice_get, slice_set, is_none, is_some, option_map, ◌==◌}
 use Rattle.uv_num.specs.declared.limits.TheConstants.{LENT_REGIONS}
 use Rattle.uv_region.specs.declared.regions.Keyed.{Keyed}
-use Rattle.uv_region.specs.Lent.{Reached, entries_of, AreApart, IsLent, has_key, reached_at}
+use Rattle.uv_region.specs.Lent.{Reached, Lent, entries_of, AreApart, IsLent, has_key, reached_at}
 
 -- whether two keys are one
 abbrev tied : ℕ → ℕ → Bool
 tied q k = eq_by_cmp nat_cmp q k
 
-tied_same : (q k : ℕ) → tied q k ≡ true → q ≡ k
+pub tied_same : (q k : ℕ) → tied q k ≡ true → q ≡ k
 tied_same q k h = eqb-true q k (sym (unsigned_tied q k) ∙ h)
 
 with_itself : (k : ℕ) → tied k k ≡ true
@@ -249,3 +250,67 @@ put_lent places at k empty fresh lent = record {
 -- a place is empty where there are fewer keys than places
 pub has_empty : (places : List (Option Keyed)) → IsLent places → map.len (map.from_entries {R = nat_cmp} (entries_of places)) < LENT_REGIONS → length (entries_of places) < length places
 has_empty places lent few = omega (arith, len_of_entries (entries_of places) lent.apart, lent.count)
+
+-- what stands where a key was found is what the map has for the key
+pub reached_here : (places : List (Option Keyed)) (at key : ℕ) (y : Option Keyed) → option_map (has_key key) (slice_get places at) ≡ Some true → y ≡ get_or places at y → IsLent places → reached_at y ≡ map.get (map.from_entries {R = nat_cmp} (entries_of places)) key
+reached_here places at key y has is lent =
+    let (k, there, named) = found_key key (slice_get places at) has in
+    let here : slice_get places at ≡ Some y = slice_get-get_or places at y (slice_get_within places at (Some k) there) ∙ ap (λ v. Some v) (sym is) in
+    (taken_at places (slice_set places at None) at key (reached_at y) has (ap (option_map reached_at) here) refl lent).given
+
+-- the map without a key, and with it again
+
+pub removed_apart : (m : Lent) (k : ℕ) → map.get (map.remove m k) k ≡ None
+removed_apart m k = map.get-remove nat_cmp_total m k k ∙ ap (λ b. cond b None (map.get m k)) (with_itself k)
+
+inserted_twice : (b : Bool) (v o : Option Reached) → cond b v (cond b None o) ≡ cond b v o
+inserted_twice true v o = refl
+inserted_twice false v o = refl
+
+pub insert-remove : (m : Lent) (k : ℕ) (v : Reached) → map.insert (map.remove m k) k v ≡ map.insert m k v
+insert-remove m k v =
+    map.same_map nat_cmp_total nat_cmp-IsAntisymmetric _ _ (λ q.
+    map.get-insert nat_cmp_total (map.remove m k) k v q
+    ∙ ap (cond (tied q k) (Some v)) (map.get-remove nat_cmp_total m k q)
+    ∙ inserted_twice (tied q k) (Some v) (map.get m q)
+    ∙ sym (map.get-insert nat_cmp_total m k v q))
+
+no_more_entries : (places : List (Option Keyed)) → length (entries_of places) ≤ length places
+no_more_entries [] = omega arith
+no_more_entries (None ∷ places) = omega (arith, no_more_entries places)
+no_more_entries (Some k ∷ places) = omega (arith, no_more_entries places)
+
+-- there is a place for a key that was taken out
+pub has_room : (places : List (Option Keyed)) (k : ℕ) (v : Reached) → IsLent places → map.get (map.from_entries {R = nat_cmp} (entries_of places)) k ≡ Some v → map.len (map.remove (map.from_entries {R = nat_cmp} (entries_of places)) k) < LENT_REGIONS
+has_room places k v lent there =
+    let m : Lent = map.from_entries {R = nat_cmp} (entries_of places) in
+    let less : map.len (map.remove m k) ≡ map.len m - 1 = map.len-remove nat_cmp_total m k ∙ ap (λ o. cond (is_some o) (map.len m - 1) (map.len m)) there in
+    omega (arith, less, len_of_entries (entries_of places) lent.apart, no_more_entries places, lent.count)
+
+put_back : (b : Bool) (v o : Option Reached) → (b ≡ true → o ≡ v) → cond b v o ≡ o
+put_back true v o same = sym (same refl)
+put_back false v o same = refl
+
+-- a region that is put back as it was changes nothing
+pub insert-same : (m : Lent) (k : ℕ) (v : Reached) → map.get m k ≡ Some v → map.insert m k v ≡ m
+insert-same m k v there =
+    map.same_map nat_cmp_total nat_cmp-IsAntisymmetric _ _ (λ q.
+    map.get-insert nat_cmp_total m k v q
+    ∙ put_back (tied q k) (Some v) (map.get m q) (λ h. ap (map.get m) (tied_same q k h) ∙ there))
+
+-- nor does it to take out a key that has none
+pub remove-none : (m : Lent) (k : ℕ) → map.get m k ≡ None → map.remove m k ≡ m
+remove-none m k none =
+    map.same_map nat_cmp_total nat_cmp-IsAntisymmetric _ _ (λ q.
+    map.get-remove nat_cmp_total m k q
+    ∙ put_back (tied q k) None (map.get m q) (λ h. ap (map.get m) (tied_same q k h) ∙ none))
+
+-- a region that was taken out of places goes back into them
+pub goes_back : (places : List (Option Keyed)) (m rest : Lent) (k : ℕ) (v : Reached) → IsLent places → map.from_entries {R = nat_cmp} (entries_of places) ≡ m → Some v ≡ map.get m k → rest ≡ map.remove m k → (map.len rest < LENT_REGIONS) × (map.get rest k ≡ None)
+goes_back places m rest k v lent view there is =
+    let P : Lent → Type 0 = λ n. map.len n < LENT_REGIONS in
+    let Q : Lent → Type 0 = λ n. map.len (map.remove n k) < LENT_REGIONS in
+    (subst P (sym is) (subst Q view (has_room places k v lent (ap (λ (n : Lent). map.get n k) view ∙ sym there))), ap (λ (n : Lent). map.get n k) is ∙ removed_apart m k)
+
+pub put_again : (m rest now : Lent) (k : ℕ) (v : Reached) → rest ≡ map.remove m k → now ≡ map.insert rest k v → now ≡ map.insert m k v
+put_again m rest now k v is put = put ∙ ap (λ (n : Lent). map.insert n k v) is ∙ insert-remove m k v

@@ -3,3 +3,4 @@ pub mod Keeping
 pub mod Lending
 pub mod Journaling
 pub mod Maps
+pub mod Reaching

@@ -1,5 +1,5 @@
 -- Journals: what a region was and all that was done to it.
-use Rattle.std.specs.Prelude.{◌≡◌, ◌≤◌, ℕ, List, length, map, replicate}
+use Rattle.std.specs.Prelude.{◌≡◌, ◌≤◌, ◌+◌, ℕ, List, [], ◌∷◌, length, map, replicate}
 use Rattle.uv_num.specs.declared.limits.TheConstants.{REGION_BYTES}
 use Rattle.uv_num.specs.Each.{Each}
 use Rattle.uv_num.specs.Prefix.{IsPrefix}
@@ -38,13 +38,18 @@ journal_of r = record {
   actions = r.actions;
 }
 
--- what the tests of its actions look at
-abbrev pub terms_in : PlainJournal → Terms
-terms_in j = record { length = j.length; domain = j.domain; rights = j.rights }
+-- what the tests of the action at a place looked at: the terms of the region at that moment, which stay as they are
+abbrev pub terms_at : PlainJournal → ℕ → Terms
+terms_at j place = record { length = j.length; domain = j.domain; rights = j.rights }
+
+-- each action was allowed by the terms at its place, the first of them standing at this one
+abbrev pub AllowedFrom : (ℕ → Terms) → ℕ → List PlainAction → Type 0
+AllowedFrom terms place [] = Unit {0}
+AllowedFrom terms place (a ∷ rest) = IsAllowed (terms place) a × AllowedFrom terms (place + 1) rest
 
 -- each action was allowed and whole, and each read holds the bytes of its turn
 pub record IsJournal (j : PlainJournal) : Type 0 where
-  pub allowed : Each (IsAllowed (terms_in j)) j.actions
+  pub allowed : AllowedFrom (terms_at j) 0 j.actions
   pub whole : Each IsWhole j.actions
   pub reads : ReadsHold (replicate j.length 0) j.actions
 

@@ -1,11 +1,16 @@
 -- Laws of regions and journals: what whoever keeps them can rely on.
-use Rattle.std.specs.Prelude.{◌≡◌, ◌≤◌, ◌<◌, ◌+◌, ◌⊎◌, ◌↔◌, ℕ, true, false, List, length, slice_get}
+use Rattle.std.specs.Prelude.{◌≡◌, ◌≤◌, ◌<◌, ◌+◌, ◌⊎◌, ◌↔◌, ℕ, true, false, List, length, slice_get, Option, None, Some}
+use Rattle.uv_region.specs.declared.action.Access.{Access}
+use Rattle.uv_region.specs.declared.action.Why.{Why}
+use Rattle.uv_region.specs.declared.action.Why.TheVariants as why
+use Rattle.uv_region.specs.declared.piece.Piece.{Piece}
 use Rattle.uv_region.specs.Actions.{PlainAction, is_read, CanBeMade}
-use Rattle.uv_region.specs.Refusals.{Terms, has_its_right, passes, IsAllowed}
+use Rattle.uv_region.specs.Refusals.{Terms, has_its_right, passes, IsAllowed, demand_of, first_refusal}
 use Rattle.uv_region.specs.Registered.{Registered, terms_of}
 use Rattle.uv_region.specs.Replay.{standing, effect, replay_of}
 use Rattle.uv_region.specs.Journals.{PlainJournal, journal_of, IsJournal, IsKept, GoesOn}
 use Rattle.uv_region.specs.Acting.{after}
+use Rattle.uv_region.specs.Lent.{Lent, acting, lent_allows, lent_after, lent_with_room, IsReady, StaysKnown}
 
 -- An action that is allowed lies inside the region, in unbounded numbers, has its right and the region's domain, and
 -- passes its window; and one of which all this is true is allowed.
@@ -14,10 +19,35 @@ pub record PassesAll (t : Terms) (a : PlainAction) : Type 0 where
   pub bounds : a.offset + a.length ≤ t.length
   pub right : has_its_right t.rights a.kind a.window ≡ true
   pub domain : t.domain ≡ a.domain
-  pub window : passes a.window a ≡ true
+  pub window : passes a.window (demand_of a) ≡ true
 
 abbrev pub AllowedPassesAll : Type 0
 AllowedPassesAll = (t : Terms) (a : PlainAction) → IsAllowed t a ↔ PassesAll t a
+
+-- The tests are made in the order of bounds, right, domain and window: a test refuses only what each test before it
+-- lets pass.
+
+abbrev pub LiesInside : Terms → PlainAction → Type 0
+LiesInside t a = a.offset + a.length ≤ t.length
+
+abbrev pub HasItsRight : Terms → PlainAction → Type 0
+HasItsRight t a = has_its_right t.rights a.kind a.window ≡ true
+
+abbrev pub RefusedFor : Terms → PlainAction → Option Why → Type 0
+RefusedFor t a None = PassesAll t a
+RefusedFor t a (Some why.Bounds) = LiesInside t a → ⊥
+RefusedFor t a (Some why.Right) = LiesInside t a × (has_its_right t.rights a.kind a.window ≡ false)
+RefusedFor t a (Some why.Domain) = LiesInside t a × HasItsRight t a × (t.domain ≡ a.domain → ⊥)
+RefusedFor t a (Some why.Window) = LiesInside t a × HasItsRight t a × (t.domain ≡ a.domain) × (passes a.window (demand_of a) ≡ false)
+
+abbrev pub RefusedInOrder : Type 0
+RefusedInOrder = (t : Terms) (a : PlainAction) → RefusedFor t a (first_refusal t a)
+
+-- The tests look neither at the bytes of an action nor at who acts.
+
+abbrev pub TestsLookAtNoBytes : Type 0
+TestsLookAtNoBytes =
+    (t : Terms) (a : PlainAction) (bytes : List ℕ) (qp : ℕ) → first_refusal t (record a { bytes = bytes; qp = qp }) ≡ first_refusal t a
 
 -- An action touches no byte outside its place.
 
@@ -53,3 +83,29 @@ GoesOnInTurn = (i j k : PlainJournal) → GoesOn i j → GoesOn j k → GoesOn i
 
 abbrev pub ActedGoesOn : Type 0
 ActedGoesOn = (r : Registered) (a : PlainAction) → GoesOn (journal_of r) (journal_of (after r a))
+
+-- Room is nothing that is known of a region: whoever takes some, and then finds no memory for more, has changed nothing
+-- that counts.
+
+abbrev pub RoomIsNotKnown : Type 0
+RoomIsNotKnown = (lent : Lent) (key more : ℕ) → StaysKnown lent (lent_with_room lent key more)
+
+-- It changes no test, and neither does an action.
+
+abbrev pub RoomChangesNoTest : Type 0
+RoomChangesNoTest =
+    (lent : Lent) (key more : ℕ) (kind : Access) (piece : Piece) (domain : ℕ)
+    → lent_allows (lent_with_room lent key more) kind piece domain ≡ lent_allows lent kind piece domain
+
+abbrev pub ActionChangesNoTest : Type 0
+ActionChangesNoTest =
+    (lent : Lent) (key : ℕ) (a : PlainAction) (kind : Access) (piece : Piece) (domain : ℕ)
+    → lent_allows (lent_after lent key a) kind piece domain ≡ lent_allows lent kind piece domain
+
+-- What is allowed on a piece may be made, whatever its bytes and whoever acts, once there is room for it.
+
+abbrev pub AllowedIsReady : Type 0
+AllowedIsReady =
+    (lent : Lent) (kind : Access) (piece : Piece) (bytes : List ℕ) (qp domain : ℕ)
+    → lent_allows lent kind piece domain ≡ true
+    → IsReady (lent_with_room lent piece.key 1) piece.key (acting kind piece bytes qp domain)

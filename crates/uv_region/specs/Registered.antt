@@ -31,3 +31,23 @@ registered object domain size rights bytes actions = record {
   actions = map plain actions.items;
   spare = actions.room;
 }
+
+-- a region without its room, which is all that counts of it
+pub record Known : Type 0 where
+  pub object : ℕ
+  pub domain : ℕ
+  pub length : ℕ
+  pub rights : Rights
+  pub bytes : List ℕ
+  pub actions : List PlainAction
+
+-- a region seen so
+abbrev pub known_of : Registered → Known
+known_of r = record {
+  object = r.object;
+  domain = r.domain;
+  length = r.length;
+  rights = r.rights;
+  bytes = r.bytes;
+  actions = r.actions;
+}

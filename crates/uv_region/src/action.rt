@@ -2,7 +2,7 @@
 
 ghost use Rattle.std.specs.Prelude.{◌≡◌, ◌+◌, ◌<◌, nat_le};
 ghost use Rattle.uv_region.specs.Actions.{plain, is_read};
-ghost use Rattle.uv_region.specs.Refusals.{is_inside, has_its_right, is_in_window, passes};
+ghost use Rattle.uv_region.specs.Refusals.{demand_of, is_inside, has_its_right, is_in_window, passes, why_name};
 
 use crate::rights::Rights;
 use uv_num::Bytes;
@@ -21,7 +21,9 @@ pub enum Access {
     RemoteWrite,
 }
 
-/// The test that an action fails first. They are made in this order.
+/// The test that an action fails first. They are made in this order, which is this project's own: `lookup_mr` of
+/// `rxe_mr.c` looks at the domain and the right together, and `mr_check_range` at the bounds after them. For a window
+/// `rxe_lookup_mw` of `rxe_mw.c` looks at its domain and right, and its range isn't tested there, but that of its region.
 #[derive(Clone, Copy, Debug, PartialEq)]
 pub enum Why {
     /// It doesn't lie in the region.
@@ -79,17 +81,56 @@ impl Access {
     }
 }
 
+impl Why {
+    /// The word that reports print for it. This project's own.
+    pub fn name(self) -> &'static str
+        ensures { result.now ≡ why_name self }
+    {
+        match self {
+            Why::Bounds => "bounds",
+            Why::Right => "right",
+            Why::Domain => "domain",
+            Why::Window => "window",
+        }
+    }
+}
+
+/// What the tests look at in an action.
+#[derive(Clone, Copy, Debug, PartialEq)]
+pub(crate) struct Demand {
+    pub(crate) kind: Access,
+    pub(crate) offset: u64,
+    pub(crate) length: u32,
+    pub(crate) domain: u32,
+    pub(crate) window: Option<Window>,
+}
+
 impl Action {
+    /// What the tests look at in it.
+    pub(crate) fn demand(&self) -> Demand
+        ensures { result ≡ demand_of (plain self.now) }
+    {
+        Demand {
+            kind: self.kind,
+            offset: self.offset,
+            length: self.length,
+            domain: self.domain,
+            window: self.window,
+        }
+    }
+}
+
+impl Demand {
     /// Whether it lies inside a length.
-    pub(crate) fn is_inside(&self, size: u32) -> bool
-        ensures { result ≡ is_inside size (plain self.now) }
+    pub(crate) fn is_inside(self, size: u32) -> bool
+        ensures { result ≡ is_inside size self }
     {
         u128::from(self.offset) + u128::from(self.length) <= u128::from(size)
     }
 
     /// Whether its right is there, which through a window isn't the region's to give.
-    pub(crate) fn has_its_right(&self, rights: Rights) -> bool
-        ensures { result ≡ has_its_right rights self.now.kind self.now.window }
+    pub(crate) fn has_its_right(self, rights: Rights) -> bool
+        ensures { result ≡ has_its_right rights self.kind self.window }
     {
         match self.window {
             None => rights.gives(self.kind),
@@ -98,13 +139,13 @@ impl Action {
     }
 
     /// Whether the window that it comes through lets it pass.
-    pub(crate) fn passes(&self) -> bool
-        ensures { result ≡ passes self.now.window (plain self.now) }
+    pub(crate) fn passes(self) -> bool
+        ensures { result ≡ passes self.window self }
     {
         match self.window {
             None => true,
             Some(window) => {
-                self.is_in(&window)
+                self.is_in(window)
                     && window.rights.gives_through_window(self.kind)
                     && window.domain == self.domain
             }
@@ -112,8 +153,8 @@ impl Action {
     }
 
     /// Whether it lies in a window's range.
-    fn is_in(&self, window: &Window) -> bool
-        ensures { result ≡ is_in_window window.now (plain self.now) }
+    fn is_in(self, window: Window) -> bool
+        ensures { result ≡ is_in_window window self }
     {
         let end = u128::from(window.offset) + u128::from(window.length);
         window.offset <= self.offset && u128::from(self.offset) + u128::from(self.length) <= end

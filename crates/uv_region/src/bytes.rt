@@ -1,6 +1,6 @@
 //! What an action does to the bytes of a region.
 
-ghost use Rattle.std.specs.Prelude.{◌≡◌, ◌+◌, ◌≤◌, length, IfOk, false};
+ghost use Rattle.std.specs.Prelude.{◌≡◌, ◌+◌, ◌≤◌, ◌++◌, length, replicate, IfOk, true, false};
 ghost use Rattle.uv_region.specs.Actions.{plain, is_read};
 ghost use Rattle.uv_region.specs.Replay.{standing, effect, overwritten};
 ghost use Rattle.uv_region.specs.Acting.{journalled, read_by, length_read};
@@ -57,6 +57,23 @@ pub(crate) fn apply(bytes: &mut [u8], action: Action, out: &mut [u8]) -> Action
     action
 }
 
+/// Does a read, puts what it reads behind a payload, and gives the action as the journal holds it.
+pub(crate) fn read_into(bytes: &[u8], action: Action, payload: &mut Bytes) -> Action
+    requires reads { is_read action.kind ≡ true }
+    requires inside { action.offset + action.length ≤ length bytes.now }
+    requires whole { length action.bytes.bytes ≡ action.length }
+    requires spare { action.length ≤ payload.old.spare }
+    ensures action { plain result ≡ journalled (plain action) bytes.now }
+    ensures payload { payload.new.bytes ≡ payload.old.bytes ++ read_by (plain action) bytes.now }
+    ensures spare { payload.old.spare ≤ payload.new.spare + action.length }
+{
+    let mut action = action;
+    let piece = standing(bytes, &action);
+    payload.put_all(piece);
+    action.bytes.as_mut_slice().copy_from_slice(piece);
+    action
+}
+
 /// The bytes that an action reads, none where it writes, to be told to whoever acts.
 pub(crate) fn read_by(alloc: Global, bytes: &[u8], action: &Action) -> Result<Bytes, AllocError>
     requires { action.now.offset + action.now.length ≤ length bytes.now }
@@ -64,9 +81,9 @@ pub(crate) fn read_by(alloc: Global, bytes: &[u8], action: &Action) -> Result<By
     ensures count { IfOk result (λ told. length told.bytes ≡ length_read (plain action.now)) }
 {
     if action.kind.is_read() {
-        copy_of(alloc, standing(bytes, action))
+        action_bytes(alloc, standing(bytes, action))
     } else {
-        copy_of(alloc, &[])
+        action_bytes(alloc, &[])
     }
 }
 
@@ -78,9 +95,9 @@ pub(crate) fn journalled(alloc: Global, bytes: &[u8], action: &Action) -> Result
     ensures whole { IfOk result (λ copy. length copy.bytes.bytes ≡ copy.length) }
 {
     let held = if action.kind.is_read() {
-        copy_of(alloc, standing(bytes, action))?
+        action_bytes(alloc, standing(bytes, action))?
     } else {
-        copy_of(alloc, action.bytes.as_slice())?
+        action_bytes(alloc, action.bytes.as_slice())?
     };
     Ok(Action {
         kind: action.kind,
@@ -93,8 +110,18 @@ pub(crate) fn journalled(alloc: Global, bytes: &[u8], action: &Action) -> Result
     })
 }
 
-fn copy_of(alloc: Global, piece: &[u8]) -> Result<Bytes, AllocError>
+/// The bytes of an action that writes these: as many as there are, with no more memory than they need, since a journal
+/// keeps them.
+pub fn action_bytes(alloc: Global, piece: &[u8]) -> Result<Bytes, AllocError>
     ensures { IfOk result (λ copy. copy.bytes ≡ piece.now) }
 {
     Ok(Bytes::from_vec(Vec::from_slice(alloc, piece)?))
+}
+
+/// The bytes of an action that reads so many, to be filled by it, with no more memory than they need.
+pub fn blank_bytes(alloc: Global, count: u32) -> Result<Bytes, AllocError>
+    ensures bytes { IfOk result (λ blank. blank.bytes ≡ replicate count 0) }
+    ensures count { IfOk result (λ blank. length blank.bytes ≡ count) }
+{
+    Ok(Bytes::from_vec(vec![in alloc; 0u8; count as usize]?))
 }

@@ -1,11 +1,21 @@
 //! Laws of regions and journals.
 
-ghost use Rattle.uv_region.specs.Laws.{AllowedPassesAll, OutsideStays, WrittenStands, ActedIsKept, ReplayKeepsLength, GoesOnFromItself, GoesOnInTurn, ActedGoesOn};
+ghost use Rattle.uv_region.specs.Laws.{AllowedPassesAll, RefusedInOrder, TestsLookAtNoBytes, OutsideStays, WrittenStands, ActedIsKept, ReplayKeepsLength, GoesOnFromItself, GoesOnInTurn, ActedGoesOn, RoomIsNotKnown, RoomChangesNoTest, ActionChangesNoTest, AllowedIsReady};
 
 /// An action is allowed exactly where it lies inside the region, has its right and the region's domain, and passes its
 /// window.
 pub fn allowed_passes_all()
     ensures { AllowedPassesAll }
+{}
+
+/// A test refuses only what each test before it lets pass.
+pub fn refused_in_order()
+    ensures { RefusedInOrder }
+{}
+
+/// The tests look neither at an action's bytes nor at who acts.
+pub fn tests_look_at_no_bytes()
+    ensures { TestsLookAtNoBytes }
 {}
 
 /// An action touches no byte outside its place.
@@ -41,4 +51,24 @@ pub fn goes_on_in_turn()
 /// The journal of a region that acted goes on from what it was.
 pub fn acted_goes_on()
     ensures { ActedGoesOn }
+{}
+
+/// To take room changes nothing that counts of regions.
+pub fn room_is_not_known()
+    ensures { RoomIsNotKnown }
+{}
+
+/// To take room changes no test.
+pub fn room_changes_no_test()
+    ensures { RoomChangesNoTest }
+{}
+
+/// An action changes no test.
+pub fn action_changes_no_test()
+    ensures { ActionChangesNoTest }
+{}
+
+/// What is allowed may be made once there is room for it.
+pub fn allowed_is_ready()
+    ensures { AllowedIsReady }
 {}

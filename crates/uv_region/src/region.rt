@@ -1,15 +1,15 @@
 //! Regions.
 
-ghost use Rattle.std.specs.Prelude.{◌≡◌, ◌+◌, ◌<◌, ◌≤◌, [], length, max, IfOk, OnOk, OnErr, true, false};
+ghost use Rattle.std.specs.Prelude.{◌≡◌, ◌+◌, ◌<◌, ◌≤◌, [], ◌++◌, length, max, IfOk, OnOk, OnErr, true, false};
 ghost use Rattle.uv_num.specs.declared.limits.TheConstants.{REGION_BYTES};
 ghost use Rattle.uv_region.specs.Actions.{plain, is_read};
-ghost use Rattle.uv_region.specs.Refusals.{first_refusal, IsAllowed};
+ghost use Rattle.uv_region.specs.Refusals.{first_refusal, refusal_of, IsAllowed};
 ghost use Rattle.uv_region.specs.Registered.{terms_of};
 ghost use Rattle.uv_region.specs.Journals.{plain_journal, journal_of, IsJournalOf};
 ghost use Rattle.uv_region.specs.Acting.{read_by, length_read, journalled, fresh, after, spent, ActGives};
 
-use crate::action::{Action, Why};
-use crate::bytes::{apply, journalled, read_by};
+use crate::action::{Action, Demand, Why};
+use crate::bytes::{apply, journalled, read_by, read_into};
 use crate::journal::Journal;
 use crate::rights::Rights;
 use std::alloc::{AllocError, Global};
@@ -24,6 +24,21 @@ pub enum Acted {
     /// It isn't allowed. The region is as it was.
     Denied(Why),
     /// There was no memory. The region is as it was.
+    NoMemory,
+}
+
+/// What became of a client's own read or write of a region, a peek or a poke, where another may have the region.
+#[derive(Debug, Drop)]
+pub enum ActTried {
+    /// It was made. These are the bytes that it read, none where it wrote.
+    Did(Bytes),
+    /// It isn't allowed.
+    Denied(Why),
+    /// Another has the region; the number is the word under which it was found taken. A later try may find it free.
+    Again(u64),
+    /// The region isn't live, or is another than the one that was named; the number is the word that was found.
+    Dead(u64),
+    /// Memory ran out.
     NoMemory,
 }
 
@@ -62,13 +77,12 @@ impl Region {
         requires { length ≤ REGION_BYTES }
         ensures { IfOk result (λ r. r ≡ fresh object domain length rights) }
     {
-        let zeros = List::filled(alloc, 0u8, length as usize)?;
         Ok(Region {
             object,
             domain,
             size: length,
             rights,
-            bytes: zeros.into_vec(),
+            bytes: vec![in alloc; 0u8; length as usize]?,
             actions: Stock::new(alloc),
         })
     }
@@ -124,16 +138,23 @@ impl Region {
     pub fn test(&self, action: &Action) -> Option<Why>
         ensures { result ≡ first_refusal (terms_of self.now) (plain action.now) }
     {
-        if !action.is_inside(self.size) {
+        self.refusal(action.demand())
+    }
+
+    /// The first test that fails of an action that demands this.
+    pub(crate) fn refusal(&self, demand: Demand) -> Option<Why>
+        ensures { result ≡ refusal_of (terms_of self.now) demand }
+    {
+        if !demand.is_inside(self.size) {
             return Some(Why::Bounds);
         }
-        if !action.has_its_right(self.rights) {
+        if !demand.has_its_right(self.rights) {
             return Some(Why::Right);
         }
-        if self.domain != action.domain {
+        if self.domain != demand.domain {
             return Some(Why::Domain);
         }
-        if !action.passes() {
+        if !demand.passes() {
             return Some(Why::Window);
         }
         None
@@ -213,6 +234,23 @@ impl Region {
     {
         let made = apply(self.bytes.as_mut_slice(), action, out);
         self.actions.put(made);
+    }
+
+    /// Makes a read that is allowed, and puts the bytes that it reads after those of a payload, which has spare for them.
+    /// It takes no memory. What the action's own bytes hold before doesn't matter.
+    pub fn read_reserved(&mut self, action: Action, payload: &mut Bytes)
+        requires room { 0 < self.old.spare }
+        requires some { 0 < action.length }
+        requires reads { is_read action.kind ≡ true }
+        requires whole { length action.bytes.bytes ≡ action.length }
+        requires allowed { IsAllowed (terms_of self.old) (plain action) }
+        requires spare { action.length ≤ payload.old.spare }
+        ensures region { self.new ≡ spent (after self.old (plain action)) }
+        ensures payload { payload.new.bytes ≡ payload.old.bytes ++ read_by (plain action) self.old.bytes }
+        ensures spare { payload.old.spare ≤ payload.new.spare + action.length }
+    {
+        let read = read_into(self.bytes.as_slice(), action, payload);
+        self.actions.put(read);
     }
 
     /// The journal of all that was done. It takes no memory.

@@ -1,15 +1,21 @@
 //! The regions that are lent to one packet action.
 
-ghost use Rattle.std.specs.Prelude.{◌≡◌, ◌<◌, length, slice_get, slice_set, true, option_map, MatchOption};
+ghost use Rattle.std.specs.Prelude.{◌≡◌, ◌+◌, ◌<◌, ◌≤◌, ◌++◌, length, slice_get, slice_set, true, option_map, MatchOption, OnOk, OnErr};
 ghost use Rattle.std.specs.FinMap as map;
 ghost use Rattle.std.specs.Ordering.{nat_cmp};
 ghost use Rattle.uv_num.specs.declared.limits.TheConstants.{LENT_REGIONS};
-ghost use Rattle.uv_region.specs.Lent.{entries_of, has_key, reached_at};
+ghost use Rattle.uv_region.specs.Actions.{is_read};
+ghost use Rattle.uv_region.specs.Refusals.{IsAllowed};
+ghost use Rattle.uv_region.specs.Registered.{terms_of};
+ghost use Rattle.uv_region.specs.Acting.{length_read, read_by, after, spent};
+ghost use Rattle.uv_region.specs.Lent.{entries_of, has_key, reached_at, reached_allows, lent_allows, lent_after, lent_with_room, lent_bytes, acting, via, IsReady};
 
-use crate::action::Window;
+use crate::action::{Access, Window};
+use crate::piece::{Piece, action_on, allows};
 use crate::region::Region;
+use std::alloc::{AllocError, Global};
 use std::marker::Model;
-use uv_num::LENT_REGIONS;
+use uv_num::{Bytes, LENT_REGIONS};
 
 /// A region under its key.
 #[derive(Drop)]
@@ -20,7 +26,8 @@ struct Keyed {
 }
 
 /// At most `LENT_REGIONS` regions under different keys, each with the window that it is reached through. Contracts see
-/// the map from keys to both. It takes no memory.
+/// the map from keys to both. It takes no memory but that of the regions' room. A key that isn't there is one that isn't
+/// live, so no call but `put` has a condition on that alone.
 #[derive(Drop)]
 pub struct Regions {
     places: [Option<Keyed>; LENT_REGIONS],
@@ -72,6 +79,159 @@ impl Regions {
             Some(at) => take_at(&mut self.places, at),
             None => None,
         }
+    }
+
+    /// Whether the region of a piece's key is there, and an action of this kind on the piece may be made for a domain.
+    pub fn allows(&self, kind: Access, piece: Piece, domain: u32) -> bool
+        ensures { result ≡ lent_allows self.now kind piece domain }
+    {
+        match place_of(&self.places, piece.key) {
+            Some(at) => place_allows(&self.places[at], kind, piece, domain),
+            None => false,
+        }
+    }
+
+    /// Takes room for so many actions on the region of a key, if it is there.
+    pub fn reserve(&mut self, alloc: Global, key: u32, more: u32) -> Result<(), AllocError>
+        ensures ok { OnOk result (self.new ≡ lent_with_room self.old key more) }
+        ensures err { OnErr result (self.new ≡ self.old) }
+    {
+        let _ = &self.places;
+        match self.take(key) {
+            Some((region, window)) => {
+                let mut region = region;
+                match region.reserve(alloc, more) {
+                    Ok(()) => {
+                        self.put(key, region, window);
+                        Ok(())
+                    }
+                    Err(AllocError) => {
+                        self.put(key, region, window);
+                        Err(AllocError)
+                    }
+                }
+            }
+            None => Ok(()),
+        }
+    }
+
+    /// Makes an action on a piece that is allowed and for which there is room. It takes no memory. A read fills `out`,
+    /// and what `bytes` holds doesn't matter then.
+    pub fn act(
+        &mut self,
+        kind: Access,
+        piece: Piece,
+        bytes: Bytes,
+        qp: u32,
+        domain: u32,
+        out: &mut [u8],
+    )
+        requires ready { IsReady self.old piece.key (acting kind piece bytes.bytes qp domain) }
+        requires some { 0 < piece.length }
+        requires whole { length bytes.bytes ≡ piece.length }
+        requires out { length out.old ≡ length_read (acting kind piece bytes.bytes qp domain) }
+        ensures lent { self.new ≡ lent_after self.old piece.key (acting kind piece bytes.bytes qp domain) }
+        ensures out { out.new ≡ lent_bytes self.old piece.key (acting kind piece bytes.bytes qp domain) }
+    {
+        let _ = &self.places;
+        match self.take(piece.key) {
+            Some((region, window)) => {
+                let mut region = region;
+                act_on(&mut region, window, kind, piece, bytes, qp, domain, out);
+                self.put(piece.key, region, window);
+            }
+            None => unreachable!(),
+        }
+    }
+
+    /// Makes a read of a piece that is allowed and for which there is room, and puts the bytes that it reads after those of
+    /// a payload, which has spare for them. It takes no memory. The journal keeps `held`, which has the length of the
+    /// piece; what it holds before doesn't matter.
+    pub fn read(
+        &mut self,
+        kind: Access,
+        piece: Piece,
+        held: Bytes,
+        qp: u32,
+        domain: u32,
+        payload: &mut Bytes,
+    )
+        requires reads { is_read kind ≡ true }
+        requires ready { IsReady self.old piece.key (acting kind piece held.bytes qp domain) }
+        requires some { 0 < piece.length }
+        requires whole { length held.bytes ≡ piece.length }
+        requires spare { piece.length ≤ payload.old.spare }
+        ensures lent { self.new ≡ lent_after self.old piece.key (acting kind piece held.bytes qp domain) }
+        ensures payload { payload.new.bytes ≡ payload.old.bytes ++ lent_bytes self.old piece.key (acting kind piece held.bytes qp domain) }
+        ensures spare { payload.old.spare ≤ payload.new.spare + piece.length }
+    {
+        let _ = &self.places;
+        match self.take(piece.key) {
+            Some((region, window)) => {
+                let mut region = region;
+                read_on(&mut region, window, kind, piece, held, qp, domain, payload);
+                self.put(piece.key, region, window);
+            }
+            None => unreachable!(),
+        }
+    }
+}
+
+/// Makes an action that is allowed on a piece of a region, through a window.
+fn act_on(
+    region: &mut Region,
+    window: Option<Window>,
+    kind: Access,
+    piece: Piece,
+    bytes: Bytes,
+    qp: u32,
+    domain: u32,
+    out: &mut [u8],
+)
+    requires allowed { IsAllowed (terms_of region.old) (via window (acting kind piece bytes.bytes qp domain)) }
+    requires room { 0 < region.old.spare }
+    requires some { 0 < piece.length }
+    requires whole { length bytes.bytes ≡ piece.length }
+    requires out { length out.old ≡ length_read (acting kind piece bytes.bytes qp domain) }
+    ensures region { region.new ≡ spent (after region.old (via window (acting kind piece bytes.bytes qp domain))) }
+    ensures out { out.new ≡ read_by (acting kind piece bytes.bytes qp domain) region.old.bytes }
+{
+    // What is allowed lies inside the region, whose length bounds its offset.
+    let _most = region.length();
+    region.act_reserved(action_on(kind, piece, bytes, qp, domain, window), out);
+}
+
+/// Makes a read that is allowed on a piece of a region, through a window.
+fn read_on(
+    region: &mut Region,
+    window: Option<Window>,
+    kind: Access,
+    piece: Piece,
+    held: Bytes,
+    qp: u32,
+    domain: u32,
+    payload: &mut Bytes,
+)
+    requires reads { is_read kind ≡ true }
+    requires allowed { IsAllowed (terms_of region.old) (via window (acting kind piece held.bytes qp domain)) }
+    requires room { 0 < region.old.spare }
+    requires some { 0 < piece.length }
+    requires whole { length held.bytes ≡ piece.length }
+    requires spare { piece.length ≤ payload.old.spare }
+    ensures region { region.new ≡ spent (after region.old (via window (acting kind piece held.bytes qp domain))) }
+    ensures payload { payload.new.bytes ≡ payload.old.bytes ++ read_by (acting kind piece held.bytes qp domain) region.old.bytes }
+    ensures spare { payload.old.spare ≤ payload.new.spare + piece.length }
+{
+    let _most = region.length();
+    region.read_reserved(action_on(kind, piece, held, qp, domain, window), payload);
+}
+
+fn place_allows(place: &Option<Keyed>, kind: Access, piece: Piece, domain: u32) -> bool
+    ensures { result ≡ reached_allows (reached_at place.now) kind piece domain }
+{
+    match place {
+        Some(keyed) => allows(&keyed.region, keyed.window, kind, piece, domain),
+        None => false,
     }
 }
 

@@ -1,4 +1,4 @@
-ghost use Rattle.std.specs.Prelude.{◌≡◌, length, IfOk};
+ghost use Rattle.std.specs.Prelude.{◌≡◌, ◌<◌, ◌≤◌, length, IfOk};
 
 use super::*;
 use bitflags::Flags;
@@ -225,4 +225,118 @@ fn rights_are_those_of_linux(rt: HostRuntime) -> Result<(), Fail> {
     }
     assert_eq!(rt; Rights::all(), Rights(31));
     Ok(())
+}
+
+/// Writes a piece for a queue pair, if it may.
+#[tactic(auto, using(crate::proofs::Reaching::ready_with_room))]
+fn write_piece(
+    alloc: Global,
+    regions: &mut Regions,
+    piece: Piece,
+    bytes: &[u8],
+) -> Result<bool, AllocError>
+    requires some { 0 < piece.length }
+    requires whole { length bytes.now ≡ piece.length }
+{
+    if !regions.allows(Access::RemoteWrite, piece, DOMAIN) {
+        return Ok(false);
+    }
+    let held = action_bytes(alloc, bytes)?;
+    regions.reserve(alloc, piece.key, 1)?;
+    regions.act(Access::RemoteWrite, piece, held, 17, DOMAIN, &mut []);
+    Ok(true)
+}
+
+/// Reads a piece for a queue pair after a payload, if it may.
+#[tactic(auto, using(crate::proofs::Reaching::ready_with_room))]
+fn read_piece(
+    alloc: Global,
+    regions: &mut Regions,
+    piece: Piece,
+    payload: &mut Bytes,
+) -> Result<bool, AllocError>
+    requires some { 0 < piece.length }
+    requires room { piece.length ≤ payload.old.spare }
+{
+    if !regions.allows(Access::LocalRead, piece, DOMAIN) {
+        return Ok(false);
+    }
+    let held = blank_bytes(alloc, piece.length)?;
+    regions.reserve(alloc, piece.key, 1)?;
+    regions.read(Access::LocalRead, piece, held, 17, DOMAIN, payload);
+    Ok(true)
+}
+
+#[test]
+#[tactic(auto, using(crate::proofs::Maps::lent))]
+fn pieces_are_written_and_read_by_key(rt: HostRuntime) -> Result<(), Fail> {
+    let mut regions = Regions::new();
+    regions.put(
+        256,
+        Region::new(rt.alloc(), 2, DOMAIN, 8, Rights::all())?,
+        None,
+    );
+    let mut payload = Bytes::with_room(rt.alloc(), 4)?;
+    let there = Piece {
+        key: 256,
+        offset: 2,
+        length: 3,
+    };
+    let front = Piece {
+        key: 256,
+        offset: 0,
+        length: 4,
+    };
+    assert!(rt; write_piece(rt.alloc(), &mut regions, there, &[7, 8, 9])?);
+    assert!(rt; read_piece(rt.alloc(), &mut regions, front, &mut payload)?);
+    assert_eq!(rt; payload.as_slice(), [0, 0, 7, 8].as_slice());
+    match regions.take(256) {
+        None => assert!(rt; false),
+        Some((region, _)) => assert_eq!(rt; region.made(), 2),
+    }
+    Ok(())
+}
+
+#[test]
+#[tactic(auto, using(crate::proofs::Maps::lent))]
+fn a_piece_is_allowed_in_unbounded_numbers(rt: HostRuntime) -> Result<(), Fail> {
+    let mut regions = Regions::new();
+    regions.put(
+        256,
+        Region::new(rt.alloc(), 2, DOMAIN, 8, Rights::LOCAL_WRITE)?,
+        None,
+    );
+    let cases = [
+        (256, 8, 0, Access::LocalWrite, DOMAIN, true),
+        (256, 4, 4, Access::LocalWrite, DOMAIN, true),
+        (256, 4, 5, Access::LocalWrite, DOMAIN, false),
+        (256, 9, 0, Access::LocalWrite, DOMAIN, false),
+        (256, 1 << 64, 1, Access::LocalWrite, DOMAIN, false),
+        (256, u128::MAX, 4, Access::LocalWrite, DOMAIN, false),
+        (256, 4, 4, Access::RemoteWrite, DOMAIN, false),
+        (256, 4, 4, Access::LocalWrite, 9, false),
+        (257, 4, 4, Access::LocalRead, DOMAIN, false),
+    ];
+    for (key, offset, length, kind, domain, wanted) in cases {
+        let piece = Piece {
+            key,
+            offset,
+            length,
+        };
+        assert_eq!(rt; regions.allows(kind, piece, domain), wanted, "at {offset}");
+    }
+    Ok(())
+}
+
+#[test]
+fn a_denial_has_a_word(rt: HostRuntime) {
+    let cases = [
+        (Why::Bounds, "bounds"),
+        (Why::Right, "right"),
+        (Why::Domain, "domain"),
+        (Why::Window, "window"),
+    ];
+    for (why, name) in cases {
+        assert_eq!(rt; why.name(), name);
+    }
 }
