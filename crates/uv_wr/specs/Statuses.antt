@@ -52,6 +52,14 @@ is_failure RemOpErr = true
 is_failure RetryExcErr = true
 is_failure RnrRetryExcErr = true
 
+-- whether what was completed was a work of a receive queue, and not of a send queue
+abbrev pub is_receive : What → Bool
+is_receive Send = false
+is_receive Write = false
+is_receive Read = false
+is_receive Ud = false
+is_receive Recv = true
+
 -- the word for what was completed
 abbrev pub what_name : What → List ℕ
 what_name Send = codes "SEND"

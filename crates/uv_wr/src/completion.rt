@@ -1,7 +1,7 @@
 //! Completions: what a completion queue tells of a work that has ended.
 
 ghost use Rattle.std.specs.Prelude.{◌≡◌};
-ghost use Rattle.uv_wr.specs.Statuses.{status_number, status_name, status_of, is_failure, what_name};
+ghost use Rattle.uv_wr.specs.Statuses.{status_number, status_name, status_of, is_failure, is_receive, what_name};
 
 /// How a work ended (`enum ib_wc_status`, `rdma/ib_verbs.h`). Linux's other statuses don't come about here.
 #[derive(Clone, Copy, Debug, PartialEq, Eq)]
@@ -104,6 +104,17 @@ pub enum What {
 }
 
 impl What {
+    /// Whether it was a work of a receive queue, or of a shared one; the others are works of a send queue. Linux tells
+    /// them by the bit IB_WC_RECV.
+    pub fn is_receive(self) -> bool
+        ensures { result ≡ is_receive self }
+    {
+        match self {
+            What::Send | What::Write | What::Read | What::Ud => false,
+            What::Recv => true,
+        }
+    }
+
     /// The word that reports print for it. This project's own.
     pub fn name(self) -> &'static str
         ensures { result.now ≡ what_name self }
@@ -127,7 +138,8 @@ pub struct Completion {
     pub status: Status,
     /// What it was.
     pub what: What,
-    /// The bytes that were moved, 0 of a work that was flushed.
+    /// The bytes that were moved, and 0 for every status but `Success`: Linux fills the field for a success alone
+    /// (`rxe_comp.c`, `make_send_cqe`; `rxe_resp.c`, `do_complete`).
     pub length: u32,
     /// The immediate of the message, if it had one.
     pub imm: Option<u32>,
@@ -167,14 +179,15 @@ mod tests {
     #[test]
     fn what_was_completed_has_a_word(rt: HostRuntime) -> Result<(), Fail> {
         let rows = [
-            (What::Send, "SEND"),
-            (What::Write, "WRITE"),
-            (What::Read, "READ"),
-            (What::Ud, "UD"),
-            (What::Recv, "RECV"),
+            (What::Send, "SEND", false),
+            (What::Write, "WRITE", false),
+            (What::Read, "READ", false),
+            (What::Ud, "UD", false),
+            (What::Recv, "RECV", true),
         ];
-        for (what, name) in rows.iter() {
+        for (what, name, receive) in rows.iter() {
             assert_eq!(rt; what.name(), *name);
+            assert_eq!(rt; what.is_receive(), *receive);
         }
         Ok(())
     }

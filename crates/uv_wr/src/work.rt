@@ -1,10 +1,10 @@
 //! Works: what is posted to the queues of a queue pair.
 
-ghost use Rattle.std.specs.Prelude.{◌≡◌, ◌≤◌, length};
-ghost use Rattle.uv_wr.specs.Works.{parts_fit, whole_length, sending, receiving, IsAddressed};
+ghost use Rattle.std.specs.Prelude.{◌≡◌, ◌<◌, ◌≤◌, length};
+ghost use Rattle.uv_wr.specs.Works.{parts_fit, whole_length, sending, receiving, op_to, sending_to, IsAddressed};
 
 use std::marker::Model;
-use uv_num::{List, QP_NUMBERS, WORK_BYTES, WORK_PARTS};
+use uv_num::{DEVICES, List, QP_NUMBERS, WORK_BYTES, WORK_PARTS};
 
 /// A part of a work: where some of its bytes lie (`struct ib_sge`, `rdma/ib_verbs.h`; an entry of the gather list of a
 /// send, of the scatter list of a receive).
@@ -39,7 +39,7 @@ pub enum Op {
 }
 
 /// A work of a send queue (`struct ib_send_wr`, `rdma/ib_verbs.h`): at most `WORK_PARTS` parts, of `WORK_BYTES` bytes at
-/// most in all, which are this project's own limits. It stays as it was made.
+/// most in all, which are this project's own limits. It stays as it was made, but for the device of a datagram.
 #[derive(Debug, Drop)]
 pub struct SendWork {
     id: u64,
@@ -60,7 +60,8 @@ impl Model for SendWork {
 
 impl SendWork {
     /// The work of these parts; None exactly where they are too many or too long. `id` is the caller's own and is told by
-    /// the completion (`wr_id`); `solicited` asks for a solicited event at the peer (IB_SEND_SOLICITED).
+    /// the completion (`wr_id`); `solicited` asks for a solicited event at the peer (IB_SEND_SOLICITED). A datagram goes to
+    /// a device below `DEVICES` and to a queue pair number below `QP_NUMBERS`.
     pub fn new(id: u64, op: Op, solicited: bool, parts: List<Sge>) -> Option<SendWork>
         requires { IsAddressed op }
         ensures { result ≡ sending id op solicited parts }
@@ -77,6 +78,26 @@ impl SendWork {
         }
     }
 
+    /// The work, going to this device where it is a datagram. A post takes the device out of the address handle that it
+    /// is given (`struct ib_ud_wr` has the handle itself), which the poster of the work can't know when it makes it.
+    pub fn to_device(self, device: u32) -> SendWork
+        requires { device < DEVICES }
+        ensures { result ≡ sending_to device self }
+    {
+        let SendWork {
+            id,
+            op,
+            solicited,
+            parts,
+        } = self;
+        SendWork {
+            id,
+            op: op_to(device, op),
+            solicited,
+            parts,
+        }
+    }
+
     /// The caller's number for it.
     pub fn id(&self) -> u64
         ensures { result ≡ self.now.id }
@@ -84,7 +105,7 @@ impl SendWork {
         self.id
     }
 
-    /// What it does. The queue pair that a datagram goes to has a number below `QP_NUMBERS`.
+    /// What it does. A datagram goes to a device below `DEVICES` and to a queue pair number below `QP_NUMBERS`.
     pub fn op(&self) -> Op
         ensures op { result ≡ self.now.op }
         ensures addressed { IsAddressed result }
@@ -171,6 +192,21 @@ impl RecvWork {
     }
 }
 
+/// What a work does, with this device where it sends a datagram.
+fn op_to(device: u32, op: Op) -> Op
+    ensures { result ≡ op_to device op }
+{
+    match op {
+        Op::Send => Op::Send,
+        Op::SendImm(imm) => Op::SendImm(imm),
+        Op::Write(at, key) => Op::Write(at, key),
+        Op::WriteImm(at, key, imm) => Op::WriteImm(at, key, imm),
+        Op::Read(at, key) => Op::Read(at, key),
+        Op::Ud(_, qp, qkey) => Op::Ud(device, qp, qkey),
+        Op::UdImm(_, qp, qkey, imm) => Op::UdImm(device, qp, qkey, imm),
+    }
+}
+
 fn fit(parts: &[Sge]) -> bool
     ensures { result ≡ parts_fit parts.now }
 {
@@ -211,6 +247,26 @@ mod tests {
         assert!(rt; work.solicited());
         assert_eq!(rt; work.parts().len(), 3);
         assert_eq!(rt; work.length(), 16_384);
+        let again = work.to_device(0);
+        assert_eq!(rt; again.op(), Op::UdImm(0, 16_777_215, 0x11, 5));
+        assert_eq!(rt; again.id(), 7);
+        Ok(())
+    }
+
+    #[test]
+    fn only_a_datagram_goes_to_another_device(rt: HostRuntime) -> Result<(), Fail> {
+        let rows = [
+            (Op::Send, Op::Send),
+            (Op::SendImm(1), Op::SendImm(1)),
+            (Op::Write(1, 2), Op::Write(1, 2)),
+            (Op::WriteImm(1, 2, 3), Op::WriteImm(1, 2, 3)),
+            (Op::Read(1, 2), Op::Read(1, 2)),
+            (Op::Ud(1, 2, 3), Op::Ud(0, 2, 3)),
+            (Op::UdImm(1, 2, 3, 4), Op::UdImm(0, 2, 3, 4)),
+        ];
+        for (op, wanted) in rows.iter() {
+            assert_eq!(rt; op_to(0, *op), *wanted);
+        }
         Ok(())
     }
 
