@@ -1,13 +1,15 @@
 -- What stays true of a ring over many uses.
-use Rattle.std.proofs.Common.{Bool, true, false, not, ◌||◌, Some, List, [], ◌∷◌, ◌++◌, ◌≡◌, refl, ap, sym, ◌∙◌, append_assoc, append-nil, if◌then◌else◌}
+use Rattle.std.proofs.Common.{ℕ, ◌+◌, ◌≤◌, Bool, true, false, not, ◌||◌, Option, Some, List, [], ◌∷◌, ◌++◌, ◌≡◌, refl, ap, sym, subst, ◌∙◌, append_assoc, append-nil, arith, if◌then◌else◌}
 use Rattle.std.proofs.Math.Bool.{or-false, or-true, or_assoc}
 use Rattle.std.specs.List.{list_any}
+use Rattle.std.specs.Prelude.{is_some}
 use Rattle.std.specs.Option.{option_to_list}
 use Rattle.uv_queue.specs.Order.{with_newest, oldest, without_oldest}
 use Rattle.uv_wr.specs.declared.completion.Completion.{Completion}
+use Rattle.uv_cq.specs.declared.ring.Arming.{Arming}
 use Rattle.uv_cq.specs.declared.ring.Arming.TheVariants.{All}
 use Rattle.uv_cq.specs.Rings.{Ringed, has_room, armed_again}
-use Rattle.uv_cq.specs.Uses.{Use, IsInOrder, IsMarked, StaysArmed, after_use, after_uses, told_by, told_in, kept_by, kept_in, loses, loses_in, is_disarming}
+use Rattle.uv_cq.specs.Uses.{Use, UseInOrder, AreJoined, IsInOrder, IsMarked, StaysArmed, HasFewEndings, after_use, after_uses, told_by, told_in, kept_by, kept_in, loses, loses_in, is_disarming, armings_in, endings_in}
 use Rattle.uv_cq.specs.Uses.Use.{Pushes, Polls, Arms, Disarms}
 
 oldest_first : (xs : List Completion) → option_to_list (oldest xs) ++ without_oldest xs ≡ xs ++ []
@@ -19,7 +21,7 @@ put_in_order : (room : Bool) (r : Ringed) (c : Completion) → (if room then rec
 put_in_order true r c = refl
 put_in_order false r c = sym (append-nil r.completions)
 
-one_in_order : (r : Ringed) (u : Use) → told_by r u ++ (after_use r u).completions ≡ r.completions ++ kept_by r u
+pub one_in_order : (r : Ringed) (u : Use) → UseInOrder r u
 one_in_order r (Pushes c solicited) = put_in_order (has_room r) r c
 one_in_order r Polls = oldest_first r.completions
 one_in_order r (Arms solicited) = sym (append-nil r.completions)
@@ -61,3 +63,41 @@ stays_armed r (Pushes c solicited ∷ uses) e d = stays_armed (after_use r (Push
 stays_armed r (Polls ∷ uses) e d = stays_armed (after_use r Polls) uses e d
 stays_armed r (Arms solicited ∷ uses) e d = stays_armed (after_use r (Arms solicited)) uses (ap (λ v. Some (armed_again v solicited)) e) d
 stays_armed r (Disarms ∷ uses) e d = cc
+
+joined_ring : (r : Ringed) (uses more : List Use) → after_uses r (uses ++ more) ≡ after_uses (after_uses r uses) more
+joined_ring r [] more = refl
+joined_ring r (u ∷ uses) more = joined_ring (after_use r u) uses more
+
+joined_kept : (r : Ringed) (uses more : List Use) → kept_in r (uses ++ more) ≡ kept_in r uses ++ kept_in (after_uses r uses) more
+joined_kept r [] more = refl
+joined_kept r (u ∷ uses) more =
+    ap (λ v. kept_by r u ++ v) (joined_kept (after_use r u) uses more)
+    ∙ sym (append_assoc (kept_by r u) (kept_in (after_use r u) uses) (kept_in (after_uses (after_use r u) uses) more))
+
+joined_told : (r : Ringed) (uses more : List Use) → told_in r (uses ++ more) ≡ told_in r uses ++ told_in (after_uses r uses) more
+joined_told r [] more = refl
+joined_told r (u ∷ uses) more =
+    ap (λ v. told_by r u ++ v) (joined_told (after_use r u) uses more)
+    ∙ sym (append_assoc (told_by r u) (told_in (after_use r u) uses) (told_in (after_uses (after_use r u) uses) more))
+
+pub joined : (r : Ringed) (uses more : List Use) → AreJoined r uses more
+joined r uses more = record { ring = joined_ring r uses more; kept = joined_kept r uses more; told = joined_told r uses more }
+
+-- an ending counts once where the ring was armed
+one_ending : (b : Bool) (n : ℕ) → (if b then n + 1 else n) ≤ n + (if b then 1 else 0)
+one_ending true n = omega arith
+one_ending false n = omega arith
+
+pub few_endings : (r : Ringed) (uses : List Use) → HasFewEndings r uses
+few_endings r [] = omega arith
+few_endings r (Pushes c solicited ∷ uses) =
+    let later : Ringed = after_use r (Pushes c solicited) in
+    let P : Option Arming → Type 0 = λ a. endings_in later uses ≤ armings_in uses + (if is_some a then 1 else 0) in
+    subst P (armed_at_put (has_room r) r c) (few_endings later uses)
+few_endings r (Polls ∷ uses) = few_endings (after_use r Polls) uses
+few_endings r (Arms solicited ∷ uses) =
+    let rest : endings_in (after_use r (Arms solicited)) uses ≤ armings_in uses + 1 = few_endings (after_use r (Arms solicited)) uses in
+    omega (arith, rest)
+few_endings r (Disarms ∷ uses) =
+    let rest : endings_in (after_use r Disarms) uses ≤ armings_in uses + 0 = few_endings (after_use r Disarms) uses in
+    omega (arith, rest, one_ending (is_some r.armed) (endings_in (after_use r Disarms) uses))

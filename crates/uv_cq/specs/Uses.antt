@@ -1,5 +1,5 @@
 -- What a ring tells and keeps over many uses of it.
-use Rattle.std.specs.Prelude.{Bool, true, false, not, ◌||◌, Some, List, [], ◌∷◌, ◌++◌, ◌≡◌, if◌then◌else◌}
+use Rattle.std.specs.Prelude.{ℕ, ◌+◌, ◌≤◌, Bool, true, false, not, ◌||◌, Some, is_some, List, [], ◌∷◌, ◌++◌, ◌≡◌, if◌then◌else◌}
 use Rattle.std.specs.Option.{option_to_list}
 use Rattle.uv_queue.specs.Order.{oldest}
 use Rattle.uv_wr.specs.declared.completion.Completion.{Completion}
@@ -67,6 +67,44 @@ is_disarming (Pushes completion solicited) = false
 is_disarming Polls = false
 is_disarming (Arms solicited) = false
 is_disarming Disarms = true
+
+-- whether a use arms
+abbrev pub is_arming : Use → Bool
+is_arming (Pushes completion solicited) = false
+is_arming Polls = false
+is_arming (Arms solicited) = true
+is_arming Disarms = false
+
+-- how many do
+abbrev pub armings_in : List Use → ℕ
+armings_in [] = 0
+armings_in (u ∷ uses) = if is_arming u then armings_in uses + 1 else armings_in uses
+
+-- whether a use disarms a ring that is armed
+abbrev pub ends_arming : Ringed → Use → Bool
+ends_arming r (Pushes completion solicited) = false
+ends_arming r Polls = false
+ends_arming r (Arms solicited) = false
+ends_arming r Disarms = is_some r.armed
+
+-- how many do
+abbrev pub endings_in : Ringed → List Use → ℕ
+endings_in r [] = 0
+endings_in r (u ∷ uses) = if ends_arming r u then endings_in (after_use r u) uses + 1 else endings_in (after_use r u) uses
+
+-- what one use takes out and then what stands is what stood and then what it keeps
+abbrev pub UseInOrder : Ringed → Use → Type 0
+UseInOrder r u = told_by r u ++ (after_use r u).completions ≡ r.completions ++ kept_by r u
+
+-- some uses, and then more of them, are all of them
+pub record AreJoined (r : Ringed) (uses more : List Use) : Type 0 where
+  pub ring : after_uses r (uses ++ more) ≡ after_uses (after_uses r uses) more
+  pub kept : kept_in r (uses ++ more) ≡ kept_in r uses ++ kept_in (after_uses r uses) more
+  pub told : told_in r (uses ++ more) ≡ told_in r uses ++ told_in (after_uses r uses) more
+
+-- a ring is disarmed while it is armed at most as often as it was armed, the arming that it began with included
+abbrev pub HasFewEndings : Ringed → List Use → Type 0
+HasFewEndings r uses = endings_in r uses ≤ armings_in uses + (if is_some r.armed then 1 else 0)
 
 -- what was taken out and then what stands is what stood and then what was kept
 abbrev pub IsInOrder : Ringed → List Use → Type 0

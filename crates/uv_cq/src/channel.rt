@@ -9,8 +9,8 @@ use uv_num::{CHANNEL_EVENTS, Room};
 
 /// The events of a completion channel that nobody has taken yet, at most `CHANNEL_EVENTS` (`struct
 /// ib_uverbs_completion_event_file`, `uverbs.h`). An event is the index of the cell of the completion queue that it tells
-/// of; in Linux it is the caller's own number for the queue (`cq_handle`), and there is no limit. Contracts see the list of
-/// the events, the oldest first. Only its making takes memory.
+/// of; in Linux it is the caller's own number for the queue (`cq_handle`), and each event takes memory, without a limit.
+/// Contracts see the list of the events, the oldest first. Only its making takes memory.
 #[derive(Debug, Drop)]
 pub struct Channel {
     events: Room<u32, CHANNEL_EVENTS>,

@@ -10,5 +10,8 @@ mod laws;
 mod ring;
 
 pub use channel::Channel;
-pub use laws::{armed_for_all_stays, completions_in_order, overrun_is_for_good};
+pub use laws::{
+    armed_for_all_stays, completions_in_order, each_use_in_order, few_disarms, overrun_is_for_good,
+    uses_join,
+};
 pub use ring::{Arming, Pushed, Ring};

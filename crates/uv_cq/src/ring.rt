@@ -65,9 +65,10 @@ impl Ring {
         })
     }
 
-    /// Puts a completion behind the others (`rxe_cq_post`). `solicited` says that the sender asked for an event; an error
-    /// counts as solicited too (IBA volume 1, 11.4.2.2). A completion for which there is no room is lost, and `overrun` is
-    /// set for good: `sw/rxe` tells the queue's event handler instead (IB_EVENT_CQ_ERR).
+    /// Puts a completion behind the others (`rxe_cq.c`, `rxe_cq_post`). `solicited` says that the sender asked for an event;
+    /// an error counts as solicited too (IBA volume 1, 11.4.2.2), where `sw/rxe` takes so only the failed receives
+    /// (`rxe_resp.c`, `do_complete`). A completion for which there is no room is lost, and `overrun` is set for good:
+    /// `sw/rxe` tells the queue's event handler instead (IB_EVENT_CQ_ERR).
     pub fn push(&mut self, completion: Completion, solicited: bool) -> Pushed
         ensures told { result ≡ push_told self.old completion solicited }
         ensures full { (result.kept ≡ false) ↔ (length self.old.completions ≡ self.old.depth) }
@@ -87,7 +88,7 @@ impl Ring {
         }
     }
 
-    /// Takes the oldest completion out, if there is one (`rxe_poll_cq`).
+    /// Takes the oldest completion out, if there is one (`rxe_verbs.c`, `rxe_poll_cq`).
     pub fn poll(&mut self) -> Option<Completion>
         ensures oldest { result ≡ oldest self.old.completions }
         ensures rest { self.new ≡ after_poll self.old }
@@ -98,8 +99,8 @@ impl Ring {
         Some(self.completions.remove(0))
     }
 
-    /// Asks for an event at the next completion, or at the next solicited one (`rxe_req_notify_cq`). An arming for all
-    /// stays until `disarm`; else the later arming counts.
+    /// Asks for an event at the next completion, or at the next solicited one (`rxe_verbs.c`, `rxe_req_notify_cq`). An
+    /// arming for all stays until `disarm`; else the later arming counts.
     pub fn arm(&mut self, solicited: bool)
         ensures { self.new ≡ after_arm self.old solicited }
     {
