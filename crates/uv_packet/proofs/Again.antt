@@ -18,7 +18,7 @@ use Rattle.uv_packet.specs.Fields.{field}
 use Rattle.uv_packet.specs.Opcodes.{headers_of, plain}
 use Rattle.uv_packet.specs.Places.{bytes_if, aeth_from, deth_from, imm_from, ieth_from, payload_from}
 use Rattle.uv_packet.specs.Packets.{Content, content_of, Ignored, pad_of, bth_bytes, reth_bytes, aeth_bytes, deth_bytes, word_bytes, headers_bytes, spelling, bytes_of, zeros, HasHeaders, IsPacketValue, RethFits, ContentFits, IsPacket}
-use Rattle.uv_packet.specs.Reading.{pad_at, reth_at, aeth_at, deth_at, word_at, reth_in, aeth_in, deth_in, imm_in, ieth_in, payload_in, content_in, headers_at, content_at}
+use Rattle.uv_packet.specs.Reading.{dest_at, pad_at, reth_at, aeth_at, deth_at, word_at, reth_in, aeth_in, deth_in, imm_in, ieth_in, payload_in, content_in, headers_at, content_at}
 use Rattle.uv_packet.specs.Refusal.{rest_at, is_short, is_versioned, is_unknown, is_overpadded, is_misfit, refusal_of, packet_of}
 
 -- ---- options
@@ -305,3 +305,11 @@ pub answer_is_read : (bytes : List ℕ) (r : Result Packet PacketFault) → (ref
 answer_is_read bytes (Ok packet) memory read p is = same_Some (content_of packet) p (sym read ∙ packet_again bytes p is)
 answer_is_read bytes (Err fault) memory read p is =
     memory (none_is (refusal_of bytes) (cond_some (is_none (refusal_of bytes)) (content_at bytes) p (packet_again bytes p is)).0)
+
+-- the queue pair that is told is the packet's
+dest_told : (b : Bool) (q p : Content) → (if b then Some q else None) ≡ Some p → q.dest ≡ p.dest
+dest_told true q p is = let same : q ≡ p = cc in ap (λ (c : Content). c.dest) same
+dest_told false q p is = cc
+
+pub dest_read : (bytes : List ℕ) (p : Content) → packet_of bytes ≡ Some p → dest_at bytes ≡ p.dest
+dest_read bytes p is = dest_told (is_none (refusal_of bytes)) (content_at bytes) p is

@@ -247,7 +247,7 @@ some_if : {A : Type 0} (has : Bool) (x : A) (P : A → Type 0) → P x → IfSom
 some_if true x P h = h
 some_if false x P h = tt
 
-field_below : (size at : ℕ) (bytes : List ℕ) → IsBytes bytes → field size at bytes < 256 ^ size
+pub field_below : (size at : ℕ) (bytes : List ℕ) → IsBytes bytes → field size at bytes < 256 ^ size
 unfolding field
 field_below size at bytes fits = big_from-lt 0 size (drop at bytes) (IsBytes-drop at bytes fits)
 

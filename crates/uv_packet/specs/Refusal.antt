@@ -1,8 +1,8 @@
 -- When bytes are no packet: the first of five faults that applies. The faults and their order are this project's own.
-use Rattle.std.specs.Prelude.{ℕ, ◌-◌, ◌%◌, ◌==◌, Bool, not, ◌||◌, ◌&&◌, nat_lt, if◌then◌else◌, Option, Some, None, is_none, List, length}
+use Rattle.std.specs.Prelude.{ℕ, ◌-◌, ◌%◌, ◌==◌, Bool, not, ◌||◌, ◌&&◌, nat_lt, if◌then◌else◌, Option, Some, None, is_none, List, length, codes}
 use Rattle.uv_num.specs.declared.limits.TheConstants.{PACKET_PAYLOAD}
 use Rattle.uv_packet.specs.declared.fault.PacketFault.{PacketFault}
-use Rattle.uv_packet.specs.declared.fault.PacketFault.TheVariants.{Short, Version, Opcode, Pad, Length}
+use Rattle.uv_packet.specs.declared.fault.PacketFault.TheVariants.{Short, Version, Opcode, Pad, Length, NoMemory}
 use Rattle.uv_packet.specs.declared.packet.TheConstants.{BTH_BYTES}
 use Rattle.uv_packet.specs.Opcodes.{headers_of}
 use Rattle.uv_packet.specs.Packets.{Content}
@@ -48,3 +48,12 @@ refusal_of bytes =
 -- the packet that bytes are, if no fault applies
 abbrev pub packet_of : List ℕ → Option Content
 packet_of bytes = if is_none (refusal_of bytes) then Some (content_at bytes) else None
+
+-- the word that reports print for a fault
+abbrev pub fault_name : PacketFault → List ℕ
+fault_name Short = codes "Short"
+fault_name Version = codes "Version"
+fault_name Opcode = codes "Opcode"
+fault_name Pad = codes "Pad"
+fault_name Length = codes "Length"
+fault_name NoMemory = codes "NoMemory"

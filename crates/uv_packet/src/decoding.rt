@@ -3,6 +3,7 @@
 ghost use Rattle.std.specs.Prelude.{◌≡◌, ◌≤◌, ◌+◌, length, IfOk, IfErr, MatchResult, Some, None, Err};
 ghost use Rattle.uv_packet.specs.declared.fault.PacketFault.{PacketFault};
 ghost use Rattle.uv_packet.specs.declared.fault.PacketFault.TheVariants.{NoMemory};
+ghost use Rattle.uv_packet.specs.declared.packet.TheConstants.{BTH_BYTES};
 ghost use Rattle.uv_packet.specs.Packets.{Content, content_of, IsPacket};
 ghost use Rattle.uv_packet.specs.Places.{payload_from};
 ghost use Rattle.uv_packet.specs.Reading.{ack_at, aeth_in, content_in, content_at, deth_in, headers_at, ieth_in, imm_in, migrated_at, pad_at, payload_in, rest_in, reth_in, solicited_at};
@@ -13,26 +14,26 @@ use crate::fault::PacketFault;
 use crate::fields::{u16_at, u24_at, u32_at, u64_at};
 use crate::headers::Headers;
 use crate::packet::{Aeth, Deth, Packet, Reth};
-use crate::refusing::{headers_at, pad_at, refusal};
+use crate::refusing::{dest_at, headers_at, pad_at, refusal};
 use std::alloc::{AllocError, Global};
 use uv_num::Bytes;
 
 fn solicited_at(bytes: &[u8]) -> bool
-    requires { 12 ≤ length bytes.now }
+    requires { BTH_BYTES ≤ length bytes.now }
     ensures { result ≡ solicited_at bytes.now }
 {
     bytes[1] / SOLICITED % 2 == 1
 }
 
 fn migrated_at(bytes: &[u8]) -> bool
-    requires { 12 ≤ length bytes.now }
+    requires { BTH_BYTES ≤ length bytes.now }
     ensures { result ≡ migrated_at bytes.now }
 {
     bytes[1] / MIGRATED % 2 == 1
 }
 
 fn ack_at(bytes: &[u8]) -> bool
-    requires { 12 ≤ length bytes.now }
+    requires { BTH_BYTES ≤ length bytes.now }
     ensures { result ≡ ack_at bytes.now }
 {
     bytes[8] / ACK % 2 == 1
@@ -102,7 +103,7 @@ fn ieth_in(headers: Headers, bytes: &[u8]) -> Option<u32>
 }
 
 fn payload_in(alloc: Global, headers: Headers, bytes: &[u8]) -> Result<Bytes, AllocError>
-    requires bth { 12 ≤ length bytes.now }
+    requires bth { BTH_BYTES ≤ length bytes.now }
     requires headers { payload_from headers ≤ length bytes.now }
     requires padded { pad_at bytes.now ≤ rest_in headers bytes.now }
     ensures { IfOk result (λ payload. payload.bytes ≡ payload_in headers bytes.now) }
@@ -113,7 +114,7 @@ fn payload_in(alloc: Global, headers: Headers, bytes: &[u8]) -> Result<Bytes, Al
 }
 
 fn packet_in(alloc: Global, headers: Headers, bytes: &[u8]) -> Result<Packet, AllocError>
-    requires bth { 12 ≤ length bytes.now }
+    requires bth { BTH_BYTES ≤ length bytes.now }
     requires headers { payload_from headers ≤ length bytes.now }
     requires padded { pad_at bytes.now ≤ rest_in headers bytes.now }
     ensures { IfOk result (λ packet. content_of packet ≡ content_in headers bytes.now) }
@@ -124,7 +125,7 @@ fn packet_in(alloc: Global, headers: Headers, bytes: &[u8]) -> Result<Packet, Al
         solicited: solicited_at(bytes),
         migrated: migrated_at(bytes),
         pkey: u16_at(bytes, 2),
-        dest: u24_at(bytes, 5),
+        dest: dest_at(bytes),
         ack: ack_at(bytes),
         psn: u24_at(bytes, 9),
         reth: reth_in(headers, bytes),

@@ -3,17 +3,15 @@
 ghost use Rattle.std.specs.Prelude.{◌≡◌, ◌≤◌, ◌<◌, ◌+◌, ◌^◌, ◌++◌, [], length, replicate, IfOk, IfSome};
 ghost use Rattle.std.specs.Option.{ForSome, option_map_or};
 ghost use Rattle.uv_num.specs.declared.limits.TheConstants.{PACKET_BYTES};
+ghost use Rattle.uv_packet.specs.declared.packet.TheConstants.{AETH_BYTES, BTH_BYTES, DETH_BYTES, HEADERS_BYTES, IMM_BYTES, OVERHEAD, RETH_BYTES};
 ghost use Rattle.uv_packet.specs.Packets.{ack_byte, aeth_bytes, bth_bytes, bytes_of, content_of, ContentFits, deth_bytes, flags_of, headers_bytes, IsPacket, IsPacketValue, pad_of, payload_bytes, reth_bytes, RethFits, word_bytes, zeros};
 ghost use Rattle.uv_packet.specs.Room.{KeepsRoom};
 
 use crate::bits::{ACK, MIGRATED, PAD, SOLICITED, UNIT};
 use crate::fields::{put_u8, put_u16, put_u24, put_u32, put_u64};
-use crate::packet::{Aeth, Deth, Packet, Reth};
+use crate::packet::{Aeth, Deth, OVERHEAD, Packet, Reth};
 use std::alloc::{AllocError, Global};
-use uv_num::{Bytes, PACKET_BYTES, PACKET_PAYLOAD};
-
-/// The bytes that are put before a payload and behind it, at most.
-const OVERHEAD: usize = PACKET_BYTES - PACKET_PAYLOAD;
+use uv_num::Bytes;
 
 /// The most bytes of pad.
 const MOST_PAD: usize = UNIT - 1;
@@ -42,10 +40,10 @@ fn ack_byte(packet: &Packet) -> u8
 fn put_bth(packet: &Packet, out: &mut Bytes)
     requires dest { packet.now.dest < 2 ^ 24 }
     requires psn { packet.now.psn < 2 ^ 24 }
-    requires room { 12 ≤ out.old.spare }
+    requires room { BTH_BYTES ≤ out.old.spare }
     ensures pkey { packet.now.pkey < 2 ^ 16 }
     ensures bytes { out.new.bytes ≡ out.old.bytes ++ bth_bytes (zeros (content_of packet.now)) (content_of packet.now) }
-    ensures spare { out.old.spare ≤ out.new.spare + 12 }
+    ensures spare { out.old.spare ≤ out.new.spare + BTH_BYTES }
     ensures kept { KeepsRoom out.old out.new }
 {
     put_u8(out, packet.opcode);
@@ -58,10 +56,10 @@ fn put_bth(packet: &Packet, out: &mut Bytes)
 }
 
 fn put_reth(reth: Option<Reth>, out: &mut Bytes)
-    requires { 16 ≤ out.old.spare }
+    requires { RETH_BYTES ≤ out.old.spare }
     ensures fits { IfSome reth RethFits }
     ensures bytes { out.new.bytes ≡ out.old.bytes ++ option_map_or reth_bytes reth [] }
-    ensures spare { out.old.spare ≤ out.new.spare + 16 }
+    ensures spare { out.old.spare ≤ out.new.spare + RETH_BYTES }
     ensures kept { KeepsRoom out.old out.new }
 {
     if let Some(reth) = reth {
@@ -73,9 +71,9 @@ fn put_reth(reth: Option<Reth>, out: &mut Bytes)
 
 fn put_aeth(aeth: Option<Aeth>, out: &mut Bytes)
     requires msn { ForSome aeth (λ a. a.msn < 2 ^ 24) }
-    requires room { 4 ≤ out.old.spare }
+    requires room { AETH_BYTES ≤ out.old.spare }
     ensures bytes { out.new.bytes ≡ out.old.bytes ++ option_map_or aeth_bytes aeth [] }
-    ensures spare { out.old.spare ≤ out.new.spare + 4 }
+    ensures spare { out.old.spare ≤ out.new.spare + AETH_BYTES }
     ensures kept { KeepsRoom out.old out.new }
 {
     if let Some(aeth) = aeth {
@@ -86,10 +84,10 @@ fn put_aeth(aeth: Option<Aeth>, out: &mut Bytes)
 
 fn put_deth(deth: Option<Deth>, out: &mut Bytes)
     requires source { ForSome deth (λ d. d.source < 2 ^ 24) }
-    requires room { 8 ≤ out.old.spare }
+    requires room { DETH_BYTES ≤ out.old.spare }
     ensures qkey { IfSome deth (λ d. d.qkey < 2 ^ 32) }
     ensures bytes { out.new.bytes ≡ out.old.bytes ++ option_map_or (deth_bytes 0) deth [] }
-    ensures spare { out.old.spare ≤ out.new.spare + 8 }
+    ensures spare { out.old.spare ≤ out.new.spare + DETH_BYTES }
     ensures kept { KeepsRoom out.old out.new }
 {
     if let Some(deth) = deth {
@@ -100,10 +98,10 @@ fn put_deth(deth: Option<Deth>, out: &mut Bytes)
 }
 
 fn put_word(word: Option<u32>, out: &mut Bytes)
-    requires { 4 ≤ out.old.spare }
+    requires { IMM_BYTES ≤ out.old.spare }
     ensures fits { IfSome word (λ n. n < 2 ^ 32) }
     ensures bytes { out.new.bytes ≡ out.old.bytes ++ option_map_or word_bytes word [] }
-    ensures spare { out.old.spare ≤ out.new.spare + 4 }
+    ensures spare { out.old.spare ≤ out.new.spare + IMM_BYTES }
     ensures kept { KeepsRoom out.old out.new }
 {
     if let Some(word) = word {
@@ -114,13 +112,13 @@ fn put_word(word: Option<u32>, out: &mut Bytes)
 fn put_headers(packet: &Packet, out: &mut Bytes)
     requires msn { ForSome packet.now.aeth (λ a. a.msn < 2 ^ 24) }
     requires source { ForSome packet.now.deth (λ d. d.source < 2 ^ 24) }
-    requires room { 36 ≤ out.old.spare }
+    requires room { HEADERS_BYTES ≤ out.old.spare }
     ensures reth { IfSome packet.now.reth RethFits }
     ensures qkey { IfSome packet.now.deth (λ d. d.qkey < 2 ^ 32) }
     ensures imm { IfSome packet.now.imm (λ n. n < 2 ^ 32) }
     ensures ieth { IfSome packet.now.ieth (λ n. n < 2 ^ 32) }
     ensures bytes { out.new.bytes ≡ out.old.bytes ++ headers_bytes (zeros (content_of packet.now)) (content_of packet.now) }
-    ensures spare { out.old.spare ≤ out.new.spare + 36 }
+    ensures spare { out.old.spare ≤ out.new.spare + HEADERS_BYTES }
     ensures kept { KeepsRoom out.old out.new }
 {
     put_reth(packet.reth, out);
@@ -151,7 +149,7 @@ fn put_payload(packet: &Packet, out: &mut Bytes)
 
 fn put_packet(packet: &Packet, out: &mut Bytes)
     requires packet { IsPacketValue (content_of packet.now) }
-    requires room { length packet.now.payload.bytes + 64 ≤ out.old.spare }
+    requires room { length packet.now.payload.bytes + OVERHEAD ≤ out.old.spare }
     ensures fits { ContentFits (content_of packet.now) }
     ensures bytes { out.new.bytes ≡ out.old.bytes ++ bytes_of (content_of packet.now) }
     ensures kept { KeepsRoom out.old out.new }

@@ -6,7 +6,7 @@ ghost use Rattle.uv_packet.specs.Places.{aeth_from, bytes_if, deth_from, ieth_fr
 use crate::packet::{AETH_BYTES, BTH_BYTES, DETH_BYTES, IETH_BYTES, IMM_BYTES, RETH_BYTES};
 
 /// The headers behind a BTH, which stand in the order of these fields, and whether a payload may stand behind them.
-/// `rxe_opcode.c` of Linux has the same by bits, as `RXE_RETH_MASK` and `RXE_PAYLOAD_MASK`.
+/// The table in `rxe_opcode.c` of Linux has the same by bits of `enum rxe_hdr_mask`, as `RXE_RETH_MASK` and `RXE_PAYLOAD_MASK`.
 #[derive(Clone, Copy, Debug, PartialEq, Eq)]
 pub struct Headers {
     /// An RDMA header.

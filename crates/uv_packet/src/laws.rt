@@ -2,6 +2,7 @@
 
 ghost use Rattle.std.specs.Prelude.{◌≡◌, ◌+◌, ◌%◌, ◌<◌, ◌≤◌, ℕ, List, None, Some, slice_index};
 ghost use Rattle.uv_packet.specs.Packets.{Content, ContentFits, IsPacket, IsPacketValue, bytes_of, pad_of};
+ghost use Rattle.uv_packet.specs.Reading.{dest_at};
 ghost use Rattle.uv_packet.specs.Refusal.{packet_of};
 
 /// Bytes that no fault refuses are the bytes of the packet that is read from them.
@@ -13,6 +14,11 @@ pub fn accepted_bytes_are_a_packet()
 /// them.
 pub fn packet_is_read()
     ensures { (bytes : List ℕ) (p : Content) → IsPacket bytes p → packet_of bytes ≡ Some p }
+{}
+
+/// The queue pair that bytes tell is the one that the packet read from them goes to.
+pub fn dest_is_the_packets()
+    ensures { (bytes : List ℕ) (p : Content) → packet_of bytes ≡ Some p → dest_at bytes ≡ p.dest }
 {}
 
 /// What was written is read again.

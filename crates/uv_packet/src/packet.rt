@@ -1,9 +1,9 @@
 //! Packets and their headers.
 
-use uv_num::Bytes;
+use uv_num::{Bytes, PACKET_BYTES, PACKET_PAYLOAD};
 
-/// The bytes of a base transport header, which begins every packet: IBA volume 1, 9.2. The same is `RXE_BTH_BYTES` in
-/// Linux's `rxe_hdr.h`, which has the size of each header under such a name.
+/// The bytes of a base transport header, which begins every packet: IBA volume 1, 9.2. The same is `RXE_BTH_BYTES` of
+/// `enum rxe_hdr_length` in Linux's `rxe_hdr.h`, which has the size of each header under such a name.
 pub const BTH_BYTES: usize = 12;
 
 /// The bytes of an RDMA header: IBA volume 1, 9.3.
@@ -20,6 +20,20 @@ pub const IMM_BYTES: usize = 4;
 
 /// The bytes of an invalidate header: IBA volume 1, 9.3.
 pub const IETH_BYTES: usize = 4;
+
+/// The bytes of all headers that may stand between a BTH and a payload, together: no packet has more.
+pub const HEADERS_BYTES: usize = RETH_BYTES + AETH_BYTES + DETH_BYTES + IMM_BYTES + IETH_BYTES;
+
+/// The bytes that are always room enough for the headers and the pad of a packet.
+pub const OVERHEAD: usize = PACKET_BYTES - PACKET_PAYLOAD;
+
+const _: () = prove!(BTH_BYTES == 12);
+
+const _: () = prove!(RETH_BYTES == 16);
+
+const _: () = prove!(HEADERS_BYTES == 36);
+
+const _: () = prove!(OVERHEAD == 64);
 
 /// An RDMA extended transport header: what a write or a read is about.
 #[derive(Clone, Copy, Debug, PartialEq, Eq)]

@@ -306,37 +306,37 @@ fn said(row: &str) -> Headers {
     }
 }
 
-/// Number, headers, and how many bytes stand in front of the payload.
-const TABLE: [(u8, &str, usize); 22] = [
-    (0x00, "P", 12),
-    (0x01, "P", 12),
-    (0x02, "P", 12),
-    (0x03, "IP", 16),
-    (0x04, "P", 12),
-    (0x05, "IP", 16),
-    (0x06, "RP", 28),
-    (0x07, "P", 12),
-    (0x08, "P", 12),
-    (0x09, "IP", 16),
-    (0x0a, "RP", 28),
-    (0x0b, "RIP", 32),
-    (0x0c, "R", 28),
-    (0x0d, "AP", 16),
-    (0x0e, "P", 12),
-    (0x0f, "AP", 16),
-    (0x10, "AP", 16),
-    (0x11, "A", 16),
-    (0x16, "VP", 16),
-    (0x17, "VP", 16),
-    (0x64, "DP", 20),
-    (0x65, "DIP", 24),
+/// Opcode, number, headers, and how many bytes stand in front of the payload.
+const TABLE: [(Opcode, u8, &str, usize); 22] = [
+    (Opcode::SendFirst, 0x00, "P", 12),
+    (Opcode::SendMiddle, 0x01, "P", 12),
+    (Opcode::SendLast, 0x02, "P", 12),
+    (Opcode::SendLastWithImmediate, 0x03, "IP", 16),
+    (Opcode::SendOnly, 0x04, "P", 12),
+    (Opcode::SendOnlyWithImmediate, 0x05, "IP", 16),
+    (Opcode::WriteFirst, 0x06, "RP", 28),
+    (Opcode::WriteMiddle, 0x07, "P", 12),
+    (Opcode::WriteLast, 0x08, "P", 12),
+    (Opcode::WriteLastWithImmediate, 0x09, "IP", 16),
+    (Opcode::WriteOnly, 0x0a, "RP", 28),
+    (Opcode::WriteOnlyWithImmediate, 0x0b, "RIP", 32),
+    (Opcode::ReadRequest, 0x0c, "R", 28),
+    (Opcode::ReadResponseFirst, 0x0d, "AP", 16),
+    (Opcode::ReadResponseMiddle, 0x0e, "P", 12),
+    (Opcode::ReadResponseLast, 0x0f, "AP", 16),
+    (Opcode::ReadResponseOnly, 0x10, "AP", 16),
+    (Opcode::Acknowledge, 0x11, "A", 16),
+    (Opcode::SendLastWithInvalidate, 0x16, "VP", 16),
+    (Opcode::SendOnlyWithInvalidate, 0x17, "VP", 16),
+    (Opcode::UdSendOnly, 0x64, "DP", 20),
+    (Opcode::UdSendOnlyWithImmediate, 0x65, "DIP", 24),
 ];
 
 #[test]
 fn the_table_has_these_opcodes_and_no_others(rt: HostRuntime) -> Result<(), Fail> {
-    for (number, row, _) in TABLE.iter() {
-        let opcode = Opcode::from_number(*number).ok_or("an opcode of the table")?;
+    for (opcode, number, row, _) in TABLE.iter() {
         assert_eq!(rt; opcode.number(), *number);
+        assert_eq!(rt; Opcode::from_number(*number), Some(*opcode));
         assert_eq!(rt; opcode.headers(), said(row), "{number}");
     }
     let known = (0..=u8::MAX).filter(|number| Opcode::from_number(*number).is_some());
@@ -346,7 +346,7 @@ fn the_table_has_these_opcodes_and_no_others(rt: HostRuntime) -> Result<(), Fail
 
 #[test]
 fn each_opcode_is_read_and_written(rt: HostRuntime) -> Result<(), Fail> {
-    for (number, row, from) in TABLE.iter() {
+    for (_, number, row, from) in TABLE.iter() {
         for len in 0..*from {
             let bytes = frame(rt.alloc(), *number, 0x00, len)?;
             assert_eq!(rt;
@@ -372,8 +372,26 @@ fn each_opcode_is_read_and_written(rt: HostRuntime) -> Result<(), Fail> {
 }
 
 #[test]
-fn a_fault_has_a_text(rt: HostRuntime) -> Result<(), Fail> {
+fn a_fault_has_a_word_and_a_text(rt: HostRuntime) -> Result<(), Fail> {
+    let rows = [
+        (PacketFault::Short, "Short"),
+        (PacketFault::Version, "Version"),
+        (PacketFault::Opcode, "Opcode"),
+        (PacketFault::Pad, "Pad"),
+        (PacketFault::Length, "Length"),
+        (PacketFault::NoMemory, "NoMemory"),
+    ];
+    for (fault, name) in rows.iter() {
+        assert_eq!(rt; fault.name(), *name);
+    }
     let text = format!(in rt.alloc(); "{}", PacketFault::Version)?;
     assert_eq!(rt; text.as_str(), "the version of the headers is not 0");
     Ok(())
+}
+
+#[test]
+fn a_frame_tells_where_it_goes(rt: HostRuntime) {
+    assert_eq!(rt; refusal(&WRITE_ONLY), None);
+    assert_eq!(rt; dest_at(&WRITE_ONLY), 17);
+    assert_eq!(rt; refusal(&WRITE_ONLY[..11]), Some(PacketFault::Short));
 }
