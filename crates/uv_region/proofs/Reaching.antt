@@ -1,6 +1,7 @@
 -- What room and actions leave of the regions by key.
-use Rattle.std.proofs.Common.{◌≡◌, ℕ, Bool, true, false, cond, List, Option, None, Some, refl, sym, ◌∙◌, ap, arith}
+use Rattle.std.proofs.Common.{◌≡◌, ◌<◌, ℕ, Bool, true, false, cond, List, Option, None, Some, refl, sym, ◌∙◌, ap, arith, ◌+◌, length, drop, get_or}
 use Rattle.std.proofs.lemmas.Cmp.{nat_cmp_total, tied_itself}
+use Rattle.std.proofs.lemmas.List.{at_drop_more}
 use Rattle.std.specs.FinMap as map
 use Rattle.std.specs.Ordering.{nat_cmp, eq_by_cmp, is_eq}
 use Rattle.std.specs.Prelude.{is_none, max, option_map}
@@ -9,7 +10,7 @@ use Rattle.uv_region.specs.declared.action.Why.{Why}
 use Rattle.uv_region.specs.declared.piece.Piece.{Piece}
 use Rattle.uv_region.specs.Actions.{PlainAction}
 use Rattle.uv_region.specs.Acting.{after, spent}
-use Rattle.uv_region.specs.Lent.{Lent, Reached, acting, via, reached_allows, lent_allows, with_room, with_acted, lent_with_room, lent_after, IsReady, known_reached, StaysKnown}
+use Rattle.uv_region.specs.Lent.{Lent, Reached, acting, via, reached_allows, lent_allows, with_room, with_acted, lent_with_room, lent_with_rooms, lent_after, IsReady, known, known_reached, StaysKnown}
 use Rattle.uv_region.proofs.Lending.{tied_same}
 
 -- a fact of the value at a key, where that of one key was replaced by one of which the same fact is true
@@ -32,7 +33,22 @@ acted_told f lent key a same None there k = refl
 acted_told f lent key a same (Some r) there k = told_again f lent key (spent (after r.0 (via r.1 a)), r.1) r there (same r) k
 
 pub room_unknown : (lent : Lent) (key more : ℕ) → StaysKnown lent (lent_with_room lent key more)
-room_unknown lent key more k = room_told (option_map known_reached) lent key more (λ r. refl) (map.get lent key) refl k
+room_unknown lent key more = record { same = room_told (option_map known_reached) lent key more (λ r. refl) (map.get lent key) refl }
+
+pub stays_itself : (lent : Lent) → StaysKnown lent lent
+stays_itself lent = record { same = λ k. refl }
+
+-- room that was taken at a step is nothing that was known before it
+pub stays_by_room : (old now new : Lent) (key more : ℕ) → StaysKnown old now → new ≡ lent_with_room now key more → StaysKnown old new
+stays_by_room old now new key more stays is = record {
+  same = λ k. ap (λ (m : Lent). known m k) is ∙ ((room_unknown now key more).same k ∙ stays.same k);
+}
+
+-- room for one piece more
+pub rooms_on : (now new : Lent) (pieces : List Piece) (i more : ℕ) (d : Piece) (all : Lent) → i < length pieces → new ≡ lent_with_room now (get_or pieces i d).key more → lent_with_rooms now (drop i pieces) more ≡ all → lent_with_rooms new (drop (i + 1) pieces) more ≡ all
+rooms_on now new pieces i more d all lt is before =
+    ap (λ (m : Lent). lent_with_rooms m (drop (i + 1) pieces) more) is
+    ∙ (sym (at_drop_more (λ ps. lent_with_rooms now ps more) pieces i d lt) ∙ before)
 
 pub room_untested : (lent : Lent) (key more : ℕ) (kind : Access) (piece : Piece) (domain : ℕ) → lent_allows (lent_with_room lent key more) kind piece domain ≡ lent_allows lent kind piece domain
 room_untested lent key more kind piece domain = room_told (λ o. reached_allows o kind piece domain) lent key more (λ r. refl) (map.get lent key) refl piece.key

@@ -119,6 +119,11 @@ with_room lent key more (Some r) = map.insert lent key (record r.0 { spare = max
 abbrev pub lent_with_room : Lent → ℕ → ℕ → Lent
 lent_with_room lent key more = with_room lent key more (map.get lent key)
 
+-- the regions with room for so many actions on that of each piece
+abbrev pub lent_with_rooms : Lent → List Piece → ℕ → Lent
+lent_with_rooms lent [] more = lent
+lent_with_rooms lent (piece ∷ pieces) more = lent_with_rooms (lent_with_room lent piece.key more) pieces more
+
 -- what counts of a region that is reached so
 abbrev pub known_reached : Reached → Known × Option Window
 known_reached r = (known_of r.0, r.1)
@@ -128,5 +133,5 @@ abbrev pub known : Lent → ℕ → Option (Known × Option Window)
 known lent key = option_map known_reached (map.get lent key)
 
 -- nothing that counts has changed: the keys, windows and regions are the same, but for the room of the regions
-abbrev pub StaysKnown : Lent → Lent → Type 0
-StaysKnown old new = (key : ℕ) → known new key ≡ known old key
+pub record StaysKnown (old new : Lent) : Type 0 where
+  pub same : (key : ℕ) → known new key ≡ known old key

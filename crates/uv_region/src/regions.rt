@@ -8,7 +8,7 @@ ghost use Rattle.uv_region.specs.Actions.{is_read};
 ghost use Rattle.uv_region.specs.Refusals.{IsAllowed};
 ghost use Rattle.uv_region.specs.Registered.{terms_of};
 ghost use Rattle.uv_region.specs.Acting.{length_read, read_by, after, spent};
-ghost use Rattle.uv_region.specs.Lent.{entries_of, has_key, reached_at, reached_allows, lent_allows, lent_after, lent_with_room, lent_bytes, acting, via, IsReady};
+ghost use Rattle.uv_region.specs.Lent.{entries_of, has_key, reached_at, reached_allows, lent_allows, lent_after, lent_with_room, lent_with_rooms, lent_bytes, StaysKnown, acting, via, IsReady};
 
 use crate::action::{Access, Window};
 use crate::piece::{Piece, action_on, allows};
@@ -113,6 +113,24 @@ impl Regions {
             }
             None => Ok(()),
         }
+    }
+
+    /// Takes room for so many actions on the region of each piece, if it is there: as many as there are pieces are enough
+    /// for one on each. Where memory runs out after some of them, nothing that counts of the regions has changed.
+    #[tactic(auto, using(crate::proofs::Reaching::stays_by_room, crate::proofs::Reaching::stays_itself))]
+    pub fn reserve_all(
+        &mut self,
+        alloc: Global,
+        pieces: &[Piece],
+        more: u32,
+    ) -> Result<(), AllocError>
+        ensures ok { OnOk result (self.new ≡ lent_with_rooms self.old pieces.now more) }
+        ensures err { OnErr result (StaysKnown self.old self.new) }
+    {
+        for piece in pieces {
+            self.reserve(alloc, piece.key, more)?;
+        }
+        Ok(())
     }
 
     /// Makes an action on a piece that is allowed and for which there is room. It takes no memory. A read fills `out`,

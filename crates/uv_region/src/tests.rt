@@ -287,6 +287,7 @@ fn pieces_are_written_and_read_by_key(rt: HostRuntime) -> Result<(), Fail> {
         offset: 0,
         length: 4,
     };
+    regions.reserve_all(rt.alloc(), &[there, front], 2)?;
     assert!(rt; write_piece(rt.alloc(), &mut regions, there, &[7, 8, 9])?);
     assert!(rt; read_piece(rt.alloc(), &mut regions, front, &mut payload)?);
     assert_eq!(rt; payload.as_slice(), [0, 0, 7, 8].as_slice());
