@@ -1,0 +1,9 @@
+pub mod Signed
+pub mod Seen
+pub mod Names
+pub mod Places
+pub mod Sums
+pub mod Takings
+pub mod Rings
+pub mod Marks
+pub mod Laws
