@@ -6,3 +6,4 @@ mod Joining
 mod Calls
 mod Drawing
 mod Joined
+mod All

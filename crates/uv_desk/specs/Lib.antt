@@ -5,3 +5,4 @@ pub mod Seats
 pub mod Answers
 pub mod Gathering
 pub mod Fits
+pub mod Laws

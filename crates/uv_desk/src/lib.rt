@@ -9,6 +9,7 @@
 
 mod closing;
 mod desk;
+mod laws;
 mod machine;
 mod opening;
 mod plays;
@@ -17,6 +18,7 @@ mod turning;
 mod view;
 
 pub use desk::Desk;
+pub use laws::{new_are_all, places_are_all};
 pub use machine::Machine;
 pub use seat::DeskSeat;
 pub use view::{Kept, View};
