@@ -1,9 +1,13 @@
 -- Which lists of seats are all of a desk's.
-use Rattle.std.proofs.Common.{◌≡◌, ◌⊎◌, ⊎_elim, inl, inr, ℕ, zero, suc, ◌+◌, ◌-◌, ◌<◌, List, [], ◌∷◌, length, map, refl, ap, sym, subst, ◌∙◌, arith}
+use Rattle.std.proofs.Common.{◌≡◌, ⊎_elim, inl, inr, ℕ, zero, suc, ◌+◌, ◌-◌, ◌<◌, List, [], ◌∷◌, length, map, refl, ap, sym, subst, arith}
 use Rattle.atomic_table.specs.Seated.{TableId}
 use Rattle.uv_num.specs.Each.{Each}
-use Rattle.uv_desk.specs.Seats.{Placed, OneOf, HasNumber, IsAll, fresh, freshes, all_fresh}
-use Rattle.uv_desk.specs.Laws.{place, NewAreAll, PlacesAreAll}
+use Rattle.uv_desk.specs.Seats.{Placed, OneOf, HasNumber, freshes, all_fresh}
+use Rattle.std.specs.Prelude.{Contains, IsPermutation, slice_index_or}
+use Rattle.std.proofs.lemmas.List.Sorted.{Contains-permutation, IsPermutation-sym, length_permutation}
+use Rattle.uv_desk.specs.Gathering.{IsIn}
+use Rattle.uv_desk.specs.Laws.{place, NewAreAll, PlacesAreAll, AnyOrderIsAll}
+use Rattle.uv_desk.proofs.Drawing.{each_of_in, in_of_each, the_one, one_of_in}
 
 module _ {E O : Type 0} where
   each_as : (Q : TableId × ℕ × ℕ → Type 0) (xs ys : List (Placed E O)) → map place xs ≡ map place ys → Each (λ (s : Placed E O). Q (place s)) ys → Each (λ (s : Placed E O). Q (place s)) xs
@@ -61,3 +65,26 @@ places_are_all {E} {O} desk before after same all = let len = length_as after be
   some = let some = all.some in omega arith;
   counted = subst (λ (n : ℕ). Each (λ (s : Placed E O). s.number ≡ 0 → s.count ≡ n) after) (sym len) (each_as (λ p. p.1 ≡ 0 → p.2 ≡ length before) after before same all.counted);
 }
+
+module _ {X : Type 0} where
+  contains_of_in : (x : X) (xs : List X) → IsIn x xs → Contains xs x
+  contains_of_in x [] i = absurd i
+  contains_of_in x (y ∷ ys) i = ⊎_elim (λ e. (0, omega arith, e)) (λ r. let c = contains_of_in x ys r in let lt = c.1 in (suc c.0, omega arith, c.2)) i
+
+  in_of_place : (x : X) (xs : List X) (k : ℕ) → k < length xs → slice_index_or xs k x ≡ x → IsIn x xs
+  in_of_place x [] k lt e = absurd (omega arith)
+  in_of_place x (y ∷ ys) zero lt e = inl e
+  in_of_place x (y ∷ ys) (suc k) lt e = inr (in_of_place x ys k (omega arith) e)
+
+  in_order_of : (x : X) (xs ys : List X) → IsPermutation xs ys → IsIn x xs → IsIn x ys
+  in_order_of x xs ys p i = let c = Contains-permutation xs ys x p (contains_of_in x xs i) in in_of_place x ys c.0 c.1 c.2
+
+pub any_order_is_all : {E O : Type 0} → AnyOrderIsAll E O
+any_order_is_all {E} {O} desk before after p all =
+    let len = length_permutation before after p in let back = IsPermutation-sym before after p in
+    let each : (P : Placed E O → Type 0) → Each P before → Each P after = λ P e. each_of_in P after (λ x i. in_of_each P before x e (in_order_of x after before back i)) in
+    record {
+      all = (each (λ s. s.desk ≡ desk) all.all.0, λ k below. let o = the_one (λ (s : Placed E O). s.number ≡ 0 + k) before (all.all.1 k (omega arith)) in one_of_in (λ (s : Placed E O). s.number ≡ 0 + k) after o.0 (in_order_of o.0 before after p o.1) o.2);
+      some = let some = all.some in omega arith;
+      counted = subst (λ (n : ℕ). Each (λ (s : Placed E O). s.number ≡ 0 → s.count ≡ n) after) (sym len) (each (λ s. s.number ≡ 0 → s.count ≡ length before) all.counted);
+    }

@@ -7,3 +7,4 @@ mod Calls
 mod Drawing
 mod Joined
 mod All
+mod Counted

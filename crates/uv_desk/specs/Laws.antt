@@ -1,5 +1,5 @@
 -- When a list of seats is all of a desk's.
-use Rattle.std.specs.Prelude.{◌≡◌, ℕ, ◌<◌, List, map}
+use Rattle.std.specs.Prelude.{◌≡◌, ℕ, ◌<◌, List, map, IsPermutation}
 use Rattle.atomic_table.specs.Seated.{TableId}
 use Rattle.uv_desk.specs.Seats.{Placed, IsAll, all_fresh}
 
@@ -14,3 +14,7 @@ NewAreAll E O = (desk : TableId) (count : ℕ) (history : List E) (own : ℕ →
 -- seats that have the places of all are all
 abbrev pub PlacesAreAll : Type 0 → Type 0 → Type 0
 PlacesAreAll E O = (desk : TableId) (before after : List (Placed E O)) → map place after ≡ map place before → IsAll desk before → IsAll desk after
+
+-- all seats in another order are all
+abbrev pub AnyOrderIsAll : Type 0 → Type 0 → Type 0
+AnyOrderIsAll E O = (desk : TableId) (before after : List (Placed E O)) → IsPermutation before after → IsAll desk before → IsAll desk after

@@ -6,3 +6,4 @@ pub mod Answers
 pub mod Gathering
 pub mod Fits
 pub mod Laws
+pub mod Counting

@@ -8,6 +8,7 @@
 #![tactic(auto)]
 
 mod closing;
+mod counter;
 mod desk;
 mod laws;
 mod machine;
@@ -17,8 +18,12 @@ mod seat;
 mod turning;
 mod view;
 
+pub use counter::{Added, Counter, close_counter};
 pub use desk::Desk;
-pub use laws::{new_are_all, places_are_all};
+pub use laws::{any_order_is_all, new_are_all, places_are_all};
 pub use machine::Machine;
 pub use seat::DeskSeat;
 pub use view::{Kept, View};
+
+#[cfg(test)]
+mod tests;
