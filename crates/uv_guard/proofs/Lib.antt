@@ -1,0 +1,14 @@
+mod Bits
+mod Put
+mod Logs
+mod Frames
+mod Takes
+mod Deeds
+mod Joining
+mod Calls
+mod Closing
+mod Placing
+mod Lists
+mod Tries
+mod Many
+mod Leaving

@@ -1,0 +1,12 @@
+use Rattle.std.proofs.Common.{sym, subst}
+use Rattle.uv_num.specs.Each.{Each}
+use Rattle.uv_guard.specs.Closed.{IsAtRest}
+use Rattle.uv_guard.specs.Seated.{Deeded}
+use Rattle.uv_guard.proofs.Many.{all_each}
+use Rattle.uv_guard.proofs.guard.Guard.close.Goals as goal
+
+pub end_all-requires-clause-rest : goal.end_all-requires-clause-rest
+end_all-requires-clause-rest g c =
+    subst (Each (λ (d : Deeded g.row.T.Denot). IsAtRest d.stage)) (sym c.absorb_all.ensures.deeds)
+    (all_each (λ (d : Deeded g.row.T.Denot). IsAtRest d.stage) (λ d k rest. rest) c.into_vec-deeds.result.items c.into_vec.result.items
+    (subst (Each (λ (d : Deeded g.row.T.Denot). IsAtRest d.stage)) (sym c.into_vec-deeds.ensures) c.requires.rest))
