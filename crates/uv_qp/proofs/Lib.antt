@@ -1,0 +1,5 @@
+pub mod Growing
+pub mod Keeping
+pub mod Ledgering
+pub mod Posting
+pub mod Rows

@@ -1,0 +1,76 @@
+-- Laws of queue pairs: what whoever keeps them can rely on.
+use Rattle.std.specs.Prelude.{◌≡◌, ◌≤◌, ◌++◌, ℕ, false, is_some, Option, [], ◌∷◌, length}
+use Rattle.uv_num.specs.declared.attrs.QpAttrs.{QpAttrs}
+use Rattle.uv_num.specs.declared.qp.QpState.{QpState}
+use Rattle.uv_num.specs.declared.qp.QpState.TheVariants as state
+use Rattle.uv_wr.specs.declared.completion.Status.{Status}
+use Rattle.uv_wr.specs.Works.{Sending, Receiving}
+use Rattle.uv_qp.specs.declared.state.Requester.{Requester}
+use Rattle.uv_qp.specs.declared.state.Responder.{Responder}
+use Rattle.uv_qp.specs.GoingOn.{PairGoesOn}
+use Rattle.uv_qp.specs.Ledgers.{IsOrdered}
+use Rattle.uv_qp.specs.Moves.{moved_to, reset}
+use Rattle.uv_qp.specs.Pairs.{Paired, IsInOrder, next_receive, receives_posted, sends_posted}
+use Rattle.uv_qp.specs.Posts.{with_receive, with_send}
+use Rattle.uv_qp.specs.Writers.{broken, held_from_queue, held_from_shared, receive_completed, send_completed, with_requester, with_responder}
+
+-- Its lists tell at each moment how the first works ended that were posted, and after one that failed none succeeded.
+
+abbrev pub ListsAreOrdered : Type 0
+ListsAreOrdered = (p : Paired) → IsInOrder p → IsOrdered (sends_posted p) p.sent × IsOrdered (receives_posted p) p.received
+
+-- The works that wait were posted.
+
+pub record WaitingWerePosted (p : Paired) : Type 0 where
+  pub sends : length p.sends.works ≤ length (sends_posted p)
+  pub receives : length p.receives.works ≤ length (receives_posted p)
+
+abbrev pub WorksWerePosted : Type 0
+WorksWerePosted = (p : Paired) → WaitingWerePosted p
+
+-- A queue pair goes on from itself, and from each that it goes on from in turn.
+
+abbrev pub GoesOnFromItself : Type 0
+GoesOnFromItself = (p : Paired) → PairGoesOn p p
+
+abbrev pub GoesOnInTurn : Type 0
+GoesOnInTurn = (p q r : Paired) → PairGoesOn p q → PairGoesOn q r → PairGoesOn p r
+
+-- It goes on by all that is done to it but a move to RESET: by its other moves, ..
+
+abbrev pub MovesGoOn : Type 0
+MovesGoOn = (p : Paired) (to : QpState) (attrs : QpAttrs) → (to ≡ state.Reset → ⊥) → PairGoesOn p (moved_to p to attrs)
+
+-- .. by posts, which add one work to one list, ..
+
+pub record PostAdds (p : Paired) : Type 0 where
+  pub send : (w : Sending) → sends_posted (with_send p w) ≡ sends_posted p ++ w.id ∷ []
+  pub send_goes_on : (w : Sending) → PairGoesOn p (with_send p w)
+  pub receive : (w : Receiving) → receives_posted (with_receive p w) ≡ receives_posted p ++ w.id ∷ []
+  pub receive_goes_on : (w : Receiving) → PairGoesOn p (with_receive p w)
+
+abbrev pub PostsGoOn : Type 0
+PostsGoOn = (p : Paired) → PostAdds p
+
+-- .. and by what the turns write.
+
+pub record WritesGoOn (p : Paired) : Type 0 where
+  pub requester : (r : Requester) → PairGoesOn p (with_requester p r)
+  pub responder : (r : Responder) → PairGoesOn p (with_responder p r)
+  pub broken : PairGoesOn p (broken p)
+  pub send_completed : (status : Status) → PairGoesOn p (send_completed p status)
+  pub receive_completed : (status : Status) (length : ℕ) (imm : Option ℕ) → PairGoesOn p (receive_completed p status length imm)
+  pub from_queue : (w : Option Receiving) → is_some p.held ≡ false → w ≡ next_receive p → PairGoesOn p (held_from_queue p w)
+  pub from_shared : (w : Option Receiving) → is_some p.held ≡ false → p.receives.works ≡ [] → PairGoesOn p (held_from_shared p w)
+
+abbrev pub TurnsGoOn : Type 0
+TurnsGoOn = (p : Paired) → WritesGoOn p
+
+-- After a move to RESET nothing was posted.
+
+pub record BeginsAnew (p : Paired) : Type 0 where
+  pub sends : sends_posted (reset p) ≡ []
+  pub receives : receives_posted (reset p) ≡ []
+
+abbrev pub ResetBeginsAnew : Type 0
+ResetBeginsAnew = (p : Paired) → BeginsAnew p

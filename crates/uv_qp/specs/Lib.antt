@@ -1,0 +1,14 @@
+pub mod Gate
+pub mod GoingOn
+pub mod Inside
+pub mod KeptAttrs
+pub mod Laws
+pub mod Ledgers
+pub mod Makings
+pub mod Moves
+pub mod PacketCounts
+pub mod Pairs
+pub mod Pieces
+pub mod Posts
+pub mod TurnWords
+pub mod Writers
