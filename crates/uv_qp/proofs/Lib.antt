@@ -1,5 +1,6 @@
 pub mod Growing
 pub mod Keeping
+pub mod Lasting
 pub mod Ledgering
 pub mod Posting
 pub mod Rows

@@ -1,18 +1,19 @@
 -- Laws of queue pairs: what whoever keeps them can rely on.
-use Rattle.std.specs.Prelude.{◌≡◌, ◌≤◌, ◌++◌, ℕ, false, is_some, Option, [], ◌∷◌, length}
+use Rattle.std.specs.Prelude.{◌≡◌, ◌≤◌, ◌++◌, ℕ, false, is_some, Option, Some, List, [], ◌∷◌, length}
 use Rattle.uv_num.specs.declared.attrs.QpAttrs.{QpAttrs}
 use Rattle.uv_num.specs.declared.qp.QpState.{QpState}
 use Rattle.uv_num.specs.declared.qp.QpState.TheVariants as state
+use Rattle.uv_wr.specs.declared.completion.Completion.{Completion}
 use Rattle.uv_wr.specs.declared.completion.Status.{Status}
 use Rattle.uv_wr.specs.Works.{Sending, Receiving}
 use Rattle.uv_qp.specs.declared.state.Requester.{Requester}
 use Rattle.uv_qp.specs.declared.state.Responder.{Responder}
-use Rattle.uv_qp.specs.GoingOn.{PairGoesOn}
+use Rattle.uv_qp.specs.GoingOn.{PairGoesOn, TurnGoesOn}
 use Rattle.uv_qp.specs.Ledgers.{IsOrdered}
 use Rattle.uv_qp.specs.Moves.{moved_to, reset}
-use Rattle.uv_qp.specs.Pairs.{Paired, IsInOrder, next_receive, receives_posted, sends_posted}
+use Rattle.uv_qp.specs.Pairs.{Paired, IsInOrder, next_receive, next_send, receives_posted, sends_posted}
 use Rattle.uv_qp.specs.Posts.{with_receive, with_send}
-use Rattle.uv_qp.specs.Writers.{broken, held_from_queue, held_from_shared, receive_completed, send_completed, with_requester, with_responder}
+use Rattle.uv_qp.specs.Writers.{broken, held_from_queue, held_from_shared, receive_completed, receive_completion, send_completed, send_completion, with_requester, with_responder}
 
 -- Its lists tell at each moment how the first works ended that were posted, and after one that failed none succeeded.
 
@@ -52,19 +53,25 @@ pub record PostAdds (p : Paired) : Type 0 where
 abbrev pub PostsGoOn : Type 0
 PostsGoOn = (p : Paired) → PostAdds p
 
--- .. and by what the turns write.
+-- .. and by what the turns write, with the completions that are told, ..
 
 pub record WritesGoOn (p : Paired) : Type 0 where
-  pub requester : (r : Requester) → PairGoesOn p (with_requester p r)
-  pub responder : (r : Responder) → PairGoesOn p (with_responder p r)
-  pub broken : PairGoesOn p (broken p)
-  pub send_completed : (status : Status) → PairGoesOn p (send_completed p status)
-  pub receive_completed : (status : Status) (length : ℕ) (imm : Option ℕ) → PairGoesOn p (receive_completed p status length imm)
-  pub from_queue : (w : Option Receiving) → is_some p.held ≡ false → w ≡ next_receive p → PairGoesOn p (held_from_queue p w)
-  pub from_shared : (w : Option Receiving) → is_some p.held ≡ false → p.receives.works ≡ [] → PairGoesOn p (held_from_shared p w)
+  pub requester : (r : Requester) → TurnGoesOn p [] (with_requester p r)
+  pub responder : (r : Responder) → TurnGoesOn p [] (with_responder p r)
+  pub broken : TurnGoesOn p [] (broken p)
+  pub send : (status : Status) (w : Sending) → next_send p ≡ Some w → TurnGoesOn p (send_completion p.names status w ∷ []) (send_completed p status)
+  pub receive : (status : Status) (length : ℕ) (imm : Option ℕ) (w : Receiving) → next_receive p ≡ Some w
+      → TurnGoesOn p (receive_completion p.names status length imm w ∷ []) (receive_completed p status length imm)
+  pub from_queue : (w : Receiving) → is_some p.held ≡ false → next_receive p ≡ Some w → TurnGoesOn p [] (held_from_queue p (Some w))
+  pub from_shared : (w : Receiving) → is_some p.held ≡ false → p.receives.works ≡ [] → TurnGoesOn p [] (held_from_shared p (Some w))
 
 abbrev pub TurnsGoOn : Type 0
 TurnsGoOn = (p : Paired) → WritesGoOn p
+
+-- .. of one after another.
+
+abbrev pub TurnsGoOnInTurn : Type 0
+TurnsGoOnInTurn = (p q r : Paired) (first more : List Completion) → TurnGoesOn p first q → TurnGoesOn q more r → TurnGoesOn p (first ++ more) r
 
 -- After a move to RESET nothing was posted.
 

@@ -1,6 +1,6 @@
 //! Laws of queue pairs.
 
-ghost use Rattle.uv_qp.specs.Laws.{ListsAreOrdered, WorksWerePosted, GoesOnFromItself, GoesOnInTurn, MovesGoOn, PostsGoOn, TurnsGoOn, ResetBeginsAnew};
+ghost use Rattle.uv_qp.specs.Laws.{ListsAreOrdered, WorksWerePosted, GoesOnFromItself, GoesOnInTurn, MovesGoOn, PostsGoOn, TurnsGoOn, TurnsGoOnInTurn, ResetBeginsAnew};
 
 /// What a queue pair tells of its works is in order at each moment.
 pub fn lists_are_ordered()
@@ -32,9 +32,14 @@ pub fn posts_go_on()
     ensures { PostsGoOn }
 {}
 
-/// A queue pair goes on by all that turns write.
+/// A queue pair goes on by all that turns write, with the completions that they tell.
 pub fn turns_go_on()
     ensures { TurnsGoOn }
+{}
+
+/// What goes on by writes of one after another goes on by all of them, with all completions.
+pub fn turns_go_on_in_turn()
+    ensures { TurnsGoOnInTurn }
 {}
 
 /// After a move to RESET nothing was posted.
