@@ -8,21 +8,10 @@ use Rattle.uv_wr.specs.declared.completion.Completion.{Completion}
 use Rattle.uv_wr.specs.Statuses.{is_failure}
 use Rattle.uv_qp.specs.Ledgers.{Ledgered, completion_id, all_succeeded, has_failed, in_order, posted_of, with_completed, IsLedger}
 
-abbrev pub none_of : {X : Type 0} → X → Bool
-none_of x = false
-
-pub filter-none : {X : Type 0} (xs : List X) → filter none_of xs ≡ []
-filter-none [] = refl
-filter-none (x ∷ xs) = filter-none xs
-
 -- a list with a first item is that item and the rest
 pub first_and_rest : {X : Type 0} (xs : List X) (x : X) → slice_get xs 0 ≡ Some x → xs ≡ x ∷ drop 1 xs
 first_and_rest [] x h = grind (arith, h)
 first_and_rest (y ∷ ys) x h = grind (arith, h)
-
--- a test that nothing passes lets all go
-pub all_let_go : {X F : Type 0} (R : F → X → Bool → F → Type 0) (f : F) (h : (x : X) (b : Bool) (g : F) → R f x b g → (b ≡ false) × (g ≡ f)) (xs ys : List X) → IsFiltered R f xs ys → ys ≡ []
-all_let_go R f h xs ys r = filter_same R none_of f h xs ys r ∙ filter-none xs
 
 pub drop-snoc : {X : Type 0} (cs : List X) (c : X) (posted : List ℕ) → drop 1 (drop (length cs) posted) ≡ drop (length (cs ++ c ∷ [])) posted
 drop-snoc cs c posted = drop-drop 1 (length cs) posted ∙ ap (λ k. drop k posted) (sym (length-append cs (c ∷ [])))
@@ -60,15 +49,3 @@ pub completed_view : (posted : List ℕ) (cs ds : List Completion) (c : Completi
 completed_view posted cs ds c more =
     ap (λ v. let l : Ledgered = record { completed = v; owed = drop (length v) posted } in l) more
     ∙ ap (λ v. let l : Ledgered = record { completed = cs ++ c ∷ []; owed = v } in l) (sym (drop-snoc cs c posted))
-
-pub ledger-empty : (posted : List ℕ) (cs : List Completion) (room : ℕ) → posted ≡ [] → cs ≡ [] → IsLedger posted cs room
-ledger-empty posted cs room p q =
-    let P : List ℕ → Type 0 = λ v. IsLedger v cs room in
-    let Q : List Completion → Type 0 = λ v. IsLedger [] v room in
-    subst P (sym p) (subst Q (sym q) record { first = refl; order = refl; covered = omega arith })
-
-pub empty_view : (posted : List ℕ) (cs : List Completion) → posted ≡ [] → cs ≡ []
-    → let l : Ledgered = record { completed = cs; owed = drop (length cs) posted } in l ≡ record { completed = []; owed = [] }
-empty_view posted cs p q =
-    ap (λ v. let l : Ledgered = record { completed = v; owed = drop (length v) posted } in l) q
-    ∙ ap (λ v. let l : Ledgered = record { completed = []; owed = v } in l) p

@@ -4,10 +4,13 @@ ghost use Rattle.std.specs.Prelude.{◌≡◌, ◌≤◌, ◌<◌, ◌+◌, leng
 ghost use Rattle.uv_num.specs.declared.limits.TheConstants.{WORK_BYTES};
 ghost use Rattle.uv_qp.specs.PacketCounts.{packets_in, work_packets};
 
+use uv_num::{MTUS, WORK_BYTES};
 use uv_wr::{Op, SendWork};
 
 /// The packets of the longest work at the smallest path MTU: `WORK_BYTES` in pieces of 256 bytes.
 pub const WORK_PACKETS: u32 = 64;
+
+const _: () = prove!(WORK_PACKETS as u64 * MTUS[0] == WORK_BYTES as u64);
 
 /// How many packets so many bytes take: one where there are none.
 pub fn packets_in(mtu: u64, size: u32) -> u32

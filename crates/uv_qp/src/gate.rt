@@ -9,6 +9,8 @@ use uv_packet::Opcode;
 /// The partition key of all packets: the default partition, as a full member (`IB_DEFAULT_PKEY_FULL`, `rdma/ib_mad.h`).
 pub const DEFAULT_PKEY: u16 = 0xffff;
 
+const _: () = prove!(DEFAULT_PKEY == 65_535);
+
 /// Whether an opcode is a response, 0x0d to 0x11: what the responder of one queue pair tells the requester of another.
 pub fn is_response(opcode: Opcode) -> bool
     ensures { result ≡ is_response opcode }

@@ -88,8 +88,8 @@ impl Ledger {
     pub fn clear(&mut self)
         ensures { self.new ≡ empty_ledger }
     {
-        self.posted.retain(|_| false);
-        self.completed.retain(|_| false);
+        self.posted.clear();
+        self.completed.clear();
     }
 
     /// After a work that failed none succeeded.

@@ -8,6 +8,7 @@
 #![tactic(auto)]
 
 mod counting;
+mod ending;
 mod gate;
 mod gathering;
 mod kept;

@@ -13,27 +13,27 @@ ghost use Rattle.uv_queue.specs.Order.{oldest};
 ghost use Rattle.uv_queue.specs.Queued.{after_pop};
 ghost use Rattle.uv_wr.specs.Statuses.{is_failure};
 ghost use Rattle.uv_qp.specs.declared.ledger.Which.TheVariants as Which;
-ghost use Rattle.uv_qp.specs.declared.counting.TheConstants.{WORK_PACKETS};
 ghost use Rattle.uv_packet.specs.Opcodes.{opcode_of};
 ghost use Rattle.uv_qp.specs.Gate.{lets_in, takes_opcode};
 ghost use Rattle.uv_qp.specs.Ledgers.{IsOrdered};
 ghost use Rattle.uv_qp.specs.Makings.{made_by, named, unused};
-ghost use Rattle.uv_qp.specs.Moves.{expecting, starting, has_row, move_answer, moved_by, moved_to, reset, verdict_of};
+ghost use Rattle.uv_qp.specs.Moves.{has_row, move_answer, moved_by, moved_to, reset, verdict_of};
 ghost use Rattle.uv_qp.specs.Pairs.{access_of, has_begun, is_broken, is_send, mtu_of, next_receive, next_send, number_of, packets_waiting, peer_of, peer_device_of, qkey_of, receives_posted, retries_of, rnr_retries_of, rnr_timer_of, sends_posted, takes_receives, takes_sends, IsInOrder, IsPaired, IsRequesting, IsResponding};
 ghost use Rattle.uv_qp.specs.Posts.{fits_service, may_receive, may_send, PostsReceive, PostsSend};
-ghost use Rattle.uv_qp.specs.Writers.{broken, counted_from, held_from_queue, held_from_shared, receive_completed, receive_completion, send_completed, send_completion, what_of, with_requester, with_responder};
+ghost use Rattle.uv_qp.specs.Writers.{broken, held_from_queue, held_from_shared, receive_completed, receive_completion, send_completed, send_completion, with_requester, with_responder};
 
 use crate::counting::packets_of;
+use crate::ending::{counted_from, number_of, receive_completion, send_completion};
 use crate::gate::{DEFAULT_PKEY, is_opcode_of, is_response, takes_packet};
 use crate::kept::{first_expected, first_sent, over};
 use crate::ledger::{Ledger, QueueList, Which};
-use crate::state::{Message, Names, Reading, Requester, Responder};
+use crate::state::{Message, Names, Requester, Responder, expecting, starting};
 use std::alloc::{AllocError, Global};
 use std::marker::Model;
-use uv_num::{Errno, FIRST_QP_NUMBER, PSNS, QpAttrs, QpState, Request, Service, modify};
+use uv_num::{Errno, QpAttrs, QpState, Request, Service, modify};
 use uv_packet::{Opcode, Packet};
 use uv_queue::WorkQueue;
-use uv_wr::{Completion, Op, RecvWork, SendWork, Status, What};
+use uv_wr::{Completion, Op, RecvWork, SendWork, Status};
 
 /// What came of a post. All but `Did` hand the work back, and nothing has changed.
 #[derive(Debug, Drop)]
@@ -78,35 +78,6 @@ impl Model for Qp {
     ghost invariant = { Fits };
 }
 
-/// A requester that has sent nothing, and numbers its packets from a PSN on.
-fn starting(psn: u32) -> Requester
-    ensures { result ≡ starting psn }
-{
-    Requester {
-        base: psn,
-        una: 0,
-        next: 0,
-        high: 0,
-        asked: 0,
-        paused: false,
-        retried: 0,
-        unready: 0,
-    }
-}
-
-/// A responder to which nothing has come, and which expects a PSN.
-fn expecting(psn: u32) -> Responder
-    ensures { result ≡ expecting psn }
-{
-    Responder {
-        expected: psn,
-        msn: 0,
-        told: false,
-        message: None,
-        reading: None,
-    }
-}
-
 fn takes_receives(state: QpState) -> bool
     ensures { result ≡ takes_receives state }
 {
@@ -139,80 +110,6 @@ fn fits_service(service: Service, op: Op) -> bool
             Op::Send | Op::SendImm(_) | Op::Write(..) | Op::WriteImm(..) | Op::Read(..),
         ) => false,
         (Service::Ud, Op::Ud(..) | Op::UdImm(..)) => true,
-    }
-}
-
-/// What a send work is, as its completion tells it.
-fn what_of(op: Op) -> What
-    ensures { result ≡ what_of op }
-{
-    match op {
-        Op::Send | Op::SendImm(_) => What::Send,
-        Op::Write(..) | Op::WriteImm(..) => What::Write,
-        Op::Read(..) => What::Read,
-        Op::Ud(..) | Op::UdImm(..) => What::Ud,
-    }
-}
-
-fn number_of(names: Names) -> u32
-    requires { names.index < CELLS }
-    ensures { result ≡ number_of names }
-{
-    FIRST_QP_NUMBER + names.index
-}
-
-fn send_completion(names: Names, status: Status, work: &SendWork) -> Completion
-    requires { names.index < CELLS }
-    ensures { result ≡ send_completion names status work.now }
-{
-    Completion {
-        id: work.id(),
-        status,
-        what: what_of(work.op()),
-        length: if status.is_failure() {
-            0
-        } else {
-            work.length()
-        },
-        imm: None,
-        qpn: number_of(names),
-    }
-}
-
-fn receive_completion(
-    names: Names,
-    status: Status,
-    length: u32,
-    imm: Option<u32>,
-    work: &RecvWork,
-) -> Completion
-    requires { names.index < CELLS }
-    ensures { result ≡ receive_completion names status length imm work.now }
-{
-    let failed = status.is_failure();
-    Completion {
-        id: work.id(),
-        status,
-        what: What::Recv,
-        length: if failed { 0 } else { length },
-        imm: if failed { None } else { imm },
-        qpn: number_of(names),
-    }
-}
-
-/// A requester that counts from so many packets later.
-fn counted_from(requester: Requester, packets: u32) -> Requester
-    requires base { requester.base < PSNS }
-    requires few { packets ≤ WORK_PACKETS }
-    ensures { result ≡ counted_from requester packets }
-{
-    Requester {
-        base: (requester.base + packets) % (PSNS as u32),
-        una: requester.una.saturating_sub(packets),
-        next: requester.next.saturating_sub(packets),
-        high: requester.high.saturating_sub(packets),
-        asked: requester.asked.saturating_sub(packets),
-        ..requester
     }
 }
 
@@ -496,6 +393,26 @@ impl Qp {
         ensures { result ≡ self.now.state }
     {
         self.state
+    }
+
+    /// Whether requests may have come in: not in RESET, nor in INIT.
+    pub fn has_begun(&self) -> bool
+        ensures { result ≡ has_begun self.now.state }
+    {
+        match self.state {
+            QpState::Reset | QpState::Init => false,
+            QpState::Rtr | QpState::Rts | QpState::Err => true,
+        }
+    }
+
+    /// Whether it is broken, so that works fail.
+    pub fn is_broken(&self) -> bool
+        ensures { result ≡ is_broken self.now.state }
+    {
+        match self.state {
+            QpState::Reset | QpState::Init | QpState::Rtr | QpState::Rts => false,
+            QpState::Err => true,
+        }
     }
 
     /// Its service.

@@ -1,5 +1,8 @@
 //! The transport state of a queue pair, as plain data.
 
+ghost use Rattle.std.specs.Prelude.{◌≡◌};
+ghost use Rattle.uv_qp.specs.Moves.{expecting, starting};
+
 /// What a queue pair is known by.
 #[derive(Clone, Copy, Debug, PartialEq, Eq)]
 pub struct Names {
@@ -82,4 +85,33 @@ pub struct Responder {
     pub message: Option<Message>,
     /// The read that is being answered, if one is.
     pub reading: Option<Reading>,
+}
+
+/// A requester that has sent nothing, and numbers its packets from a PSN on.
+pub(crate) fn starting(psn: u32) -> Requester
+    ensures { result ≡ starting psn }
+{
+    Requester {
+        base: psn,
+        una: 0,
+        next: 0,
+        high: 0,
+        asked: 0,
+        paused: false,
+        retried: 0,
+        unready: 0,
+    }
+}
+
+/// A responder to which nothing has come, and which expects a PSN.
+pub(crate) fn expecting(psn: u32) -> Responder
+    ensures { result ≡ expecting psn }
+{
+    Responder {
+        expected: psn,
+        msn: 0,
+        told: false,
+        message: None,
+        reading: None,
+    }
 }
