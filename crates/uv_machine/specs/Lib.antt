@@ -8,7 +8,9 @@ pub mod Histories
 pub mod Laws
 pub mod Lives
 pub mod Logged
+pub mod Made
 pub mod Marking
+pub mod ObjectLaws
 pub mod Objects
 pub mod Outside
 pub mod Plans

@@ -6,6 +6,7 @@ mod clients;
 mod histories;
 mod lives;
 mod numbers;
+mod objects;
 mod reached;
 mod teardowns;
 
@@ -17,6 +18,10 @@ pub use clients::{calls_go_on, calls_in_flight, calls_in_order};
 pub use histories::{legal_goes_on, state_goes_on};
 pub use lives::{destroy_answers, released_at_most_once, released_once, users_first};
 pub use numbers::make_has_room;
+pub use objects::{
+    bound_gives_no_more, keeps_cell, made_by_request, made_counts, made_goes_on, made_in_order,
+    stands_as_made, stands_by_request, uses_fit, uses_keep_cell,
+};
 pub use reached::{
     legal_is_bounded, legal_is_celled, legal_is_reached, legal_looks_stand, legal_own_stands,
     legal_uses_stand,
