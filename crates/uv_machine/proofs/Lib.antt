@@ -8,6 +8,7 @@ pub mod CelledTurns
 pub mod Changing
 pub mod Clients
 pub mod Coming
+pub mod Counting
 pub mod Dealing
 pub mod Entering
 pub mod Files
@@ -36,6 +37,7 @@ pub mod Phases
 pub mod Planned
 pub mod Reaching
 pub mod Releases
+pub mod Rounds
 pub mod Standing
 pub mod Suiting
 pub mod Sums

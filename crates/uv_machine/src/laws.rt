@@ -2,6 +2,7 @@
 
 mod accounts;
 mod calls;
+mod cells;
 mod clients;
 mod histories;
 mod lives;
@@ -14,6 +15,7 @@ pub use accounts::{coming_covers, owed_covers};
 pub use calls::{
     calls_stand_apart, enters_with_few, idle_is_quiet, looks_are_few, make_has_place, steps_run_out,
 };
+pub use cells::{cell_is_one, cells_go_round, last_life, lives_count};
 pub use clients::{calls_go_on, calls_in_flight, calls_in_order};
 pub use histories::{legal_goes_on, state_goes_on};
 pub use lives::{destroy_answers, released_at_most_once, released_once, users_first};
