@@ -13,11 +13,13 @@ pub mod Dealing
 pub mod Entering
 pub mod Files
 pub mod FilesApart
+pub mod EventsKept
 pub mod Fitting
 pub mod GoingOn
 pub mod Graph
 pub mod Historied
 pub mod Holding
+pub mod HusksGo
 pub mod Judged
 pub mod Keeping
 pub mod Leasts

@@ -4,6 +4,7 @@ pub mod Calls
 pub mod Cells
 pub mod Destroys
 pub mod Effects
+pub mod Events
 pub mod Histories
 pub mod Laws
 pub mod Lives

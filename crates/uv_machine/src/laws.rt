@@ -4,6 +4,7 @@ mod accounts;
 mod calls;
 mod cells;
 mod clients;
+mod events;
 mod histories;
 mod lives;
 mod numbers;
@@ -17,6 +18,7 @@ pub use calls::{
 };
 pub use cells::{cell_is_one, cells_go_round, last_life, lives_count};
 pub use clients::{calls_go_on, calls_in_flight, calls_in_order};
+pub use events::{events_count, husks_can_go};
 pub use histories::{legal_goes_on, state_goes_on};
 pub use lives::{destroy_answers, released_at_most_once, released_once, users_first};
 pub use numbers::make_has_room;
