@@ -14,6 +14,7 @@ pub mod Entering
 pub mod Files
 pub mod FilesApart
 pub mod EventsKept
+pub mod Filing
 pub mod Fitting
 pub mod GoingOn
 pub mod Graph
@@ -31,6 +32,7 @@ pub mod Marked
 pub mod Meeting
 pub mod Members
 pub mod Numbers
+pub mod ObjectsApart
 pub mod Owing
 pub mod OwnCall
 pub mod Owning

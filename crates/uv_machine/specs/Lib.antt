@@ -5,6 +5,7 @@ pub mod Cells
 pub mod Destroys
 pub mod Effects
 pub mod Events
+pub mod Filed
 pub mod Histories
 pub mod Laws
 pub mod Lives

@@ -1,5 +1,5 @@
 -- Laws of objects: what they are made for, what they use, which cells they have, and what bindings give.
-use Rattle.std.specs.Prelude.{ℕ, true, false, ◌≡◌, ◌≢◌, ◌≤◌, ◌+◌, ◌++◌, List, [], ◌∷◌, Option, None, Some, length, map, slice_get}
+use Rattle.std.specs.Prelude.{ℕ, Bool, ◌==◌, true, false, ◌≡◌, ◌≢◌, ◌≤◌, ◌+◌, ◌++◌, List, [], ◌∷◌, Option, None, Some, length, map, slice_get}
 use Rattle.uv_num.specs.declared.access.TheConstants.{ACCESS_LOCAL_WRITE, ACCESS_REMOTE_WRITE, ACCESS_MW_BIND}
 use Rattle.uv_num.specs.declared.kind.Kind.{Kind}
 use Rattle.uv_num.specs.declared.kind.Kind.TheVariants.{Mr, Mw}
@@ -14,13 +14,13 @@ use Rattle.uv_num.specs.Looks.{looks_of}
 use Rattle.uv_num.specs.Request.{role_of}
 use Rattle.uv_machine.specs.declared.entry.Answer.TheVariants as answer
 use Rattle.uv_machine.specs.declared.entry.Entry.{Entry}
-use Rattle.uv_machine.specs.declared.entry.Entry.TheVariants.{Enter}
+use Rattle.uv_machine.specs.declared.entry.Entry.TheVariants.{Open, Enter, Step, Unplug, Tear, Kill, Gone, Dissociated, Closed}
 use Rattle.uv_machine.specs.declared.object.Binding.{Binding}
 use Rattle.uv_machine.specs.declared.object.Object.{Object}
 use Rattle.uv_machine.specs.declared.pool.Cell.{Cell}
 use Rattle.uv_machine.specs.declared.state.State.{State}
 use Rattle.uv_machine.specs.Objects.{is_live, is_husk, uses_object, region_length, region_access, domain_of}
-use Rattle.uv_machine.specs.Histories.{IsLegal, state_of}
+use Rattle.uv_machine.specs.Histories.{Allowed, after, IsLegal, state_of}
 use Rattle.uv_machine.specs.Reached.{IsIn, cell_in, HasCell}
 use Rattle.uv_machine.specs.Made.{made_in, new_by, listed, is_at, lives_at, gives, gives_from}
 
@@ -177,3 +177,32 @@ pub record GivesNoMore (objects : List Object) (x : Object) (b : Binding) : Type
 abbrev pub BoundGivesNoMore : Type 0
 BoundGivesNoMore =
     (h : List Entry) (x : Object) (b : Binding) → IsLegal h → IsIn x (state_of h).objects → x.binding ≡ Some b → GivesNoMore (state_of h).objects x b
+
+-- An entry leaves each object as it is that it doesn't name; when a file is closed its objects go.
+
+abbrev pub names_object : ℕ → Entry → Bool
+names_object o (Open c f d a) = false
+names_object o (Enter c f request a) = false
+names_object o (Step c w i found a) = i == o
+names_object o (Unplug d) = false
+names_object o (Tear f by) = false
+names_object o (Kill i) = i == o
+names_object o (Gone i kept) = i == o
+names_object o (Dissociated f) = false
+names_object o (Closed f) = false
+
+abbrev pub closes_file : ℕ → Entry → Bool
+closes_file f (Open c g d a) = false
+closes_file f (Enter c g request a) = false
+closes_file f (Step c w o found a) = false
+closes_file f (Unplug d) = false
+closes_file f (Tear g by) = false
+closes_file f (Kill o) = false
+closes_file f (Gone o kept) = false
+closes_file f (Dissociated g) = false
+closes_file f (Closed g) = g == f
+
+abbrev pub ObjectsStandApart : Type 0
+ObjectsStandApart =
+    (m : State) (e : Entry) (x : Object) → Allowed m e → IsIn x m.objects → names_object x.id e ≡ false → closes_file x.file e ≡ false
+    → IsIn x (after m e).objects

@@ -1,6 +1,6 @@
 //! Laws on objects: what they are made for, what they use, and which cells they have.
 
-ghost use Rattle.uv_machine.specs.ObjectLaws.{MadeGoesOn, MadeInOrder, MadeCounts, StandsAsMade, KeepsCell, MadeByRequest, StandsByRequest, UsesFit, UsesKeepCell, BoundGivesNoMore};
+ghost use Rattle.uv_machine.specs.ObjectLaws.{MadeGoesOn, MadeInOrder, MadeCounts, StandsAsMade, KeepsCell, MadeByRequest, StandsByRequest, UsesFit, UsesKeepCell, BoundGivesNoMore, ObjectsStandApart};
 
 /// The objects ever made go on with the history.
 pub fn made_goes_on()
@@ -53,4 +53,9 @@ pub fn uses_keep_cell()
 /// the range.
 pub fn bound_gives_no_more()
     ensures { BoundGivesNoMore }
+{}
+
+/// An entry leaves each object as it is that it doesn't name; when a file is closed its objects go.
+pub fn objects_stand_apart()
+    ensures { ObjectsStandApart }
 {}
