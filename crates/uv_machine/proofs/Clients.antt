@@ -130,7 +130,7 @@ closing_apart call w v word ends is ne e = ne (sym is ∙ sym (next_word-closing
 refused_apart : (v : Word) → may_refuse v ≡ true → v ≢ Exit
 refused_apart v may e = let same : may_refuse v ≡ false = ap may_refuse e in cc
 
-stays_or_leaves : (call : InFlight) (w : Word) (slot : Option InFlight) → next_word call ≡ w → OwnTurn call slot → StaysOn w call slot ⊎ ((w ≡ Exit) × (slot ≡ None))
+pub stays_or_leaves : (call : InFlight) (w : Word) (slot : Option InFlight) → next_word call ≡ w → OwnTurn call slot → StaysOn w call slot ⊎ ((w ≡ Exit) × (slot ≡ None))
 stays_or_leaves call w slot word (OwnTurn.OwnRefuses v e plan may is) = inl (record { apart = planned_apart call w v word plan (refused_apart v may); left = _; is = is; file = refl; request = refl })
 stays_or_leaves call w slot word (OwnTurn.OwnReserves n plan is) = inl (record { apart = planned_apart call w Reserve word plan (λ e. cc); left = _; is = is; file = refl; request = refl })
 stays_or_leaves call w slot word (OwnTurn.OwnLooks o plan is) = inl (record { apart = planned_apart call w Look word plan (λ e. cc); left = _; is = is; file = refl; request = refl })

@@ -10,6 +10,8 @@ pub mod Clients
 pub mod Coming
 pub mod Counting
 pub mod Dealing
+pub mod Emptied
+pub mod Emptying
 pub mod Entering
 pub mod Files
 pub mod FilesApart

@@ -17,6 +17,7 @@ pub mod Objects
 pub mod Outside
 pub mod Plans
 pub mod Reached
+pub mod Removals
 pub mod Requests
 pub mod States
 pub mod Steps

@@ -11,6 +11,7 @@ mod lives;
 mod numbers;
 mod objects;
 mod reached;
+mod removals;
 mod teardowns;
 
 pub use accounts::{coming_covers, owed_covers};
@@ -31,6 +32,9 @@ pub use objects::{
 pub use reached::{
     legal_is_bounded, legal_is_celled, legal_is_reached, legal_looks_stand, legal_own_stands,
     legal_uses_stand,
+};
+pub use removals::{
+    kills_count, releases_count, sweep_takes_one, sweep_waits, teardown_counts, torn_stays_quiet,
 };
 pub use teardowns::{
     files_stand_apart, finds_free, open_is_open, phases_stand_apart, sweep_begins, sweep_ends,
