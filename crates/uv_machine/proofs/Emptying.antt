@@ -375,7 +375,7 @@ gone_by m o (Some x) is may =
     let p = Passes-find (has_id o) x m.objects is in
     record { item = x; is = is; within = p.within; id = eqb-true x.id o p.test; phase = and_left (is_doomed x.phase) (is_swept m x.file) may }
 
-gone : (m : State) (o : ℕ) → may_go m o ≡ true → IsTaken m o is_doomed
+pub gone : (m : State) (o : ℕ) → may_go m o ≡ true → IsTaken m o is_doomed
 gone m o may = gone_by m o (object_with m o) refl may
 
 doomed_of_live : (p : Phase) → is_live p ≡ true → doomed_from p ≡ phase.Doomed

@@ -10,6 +10,7 @@ pub mod Clients
 pub mod Coming
 pub mod Counting
 pub mod Dealing
+pub mod Destroyed
 pub mod Emptied
 pub mod Emptying
 pub mod Entering
@@ -25,6 +26,7 @@ pub mod Holding
 pub mod HusksGo
 pub mod Judged
 pub mod Keeping
+pub mod OfKinds
 pub mod Leasts
 pub mod Lifetimes
 pub mod Lives
@@ -35,6 +37,8 @@ pub mod Meeting
 pub mod Members
 pub mod Numbers
 pub mod ObjectsApart
+pub mod Opened
+pub mod Overs
 pub mod Owing
 pub mod OwnCall
 pub mod Owning
@@ -44,6 +48,7 @@ pub mod Planned
 pub mod Reaching
 pub mod Releases
 pub mod Rounds
+pub mod Silence
 pub mod Standing
 pub mod Suiting
 pub mod Sums

@@ -118,7 +118,7 @@ lived_from m (e ∷ h) o n legal l =
     lived_as (state_from (after m e) h) o ((n + one_if (releases m o e)) + releases_from (after m e) o h) (n + (one_if (releases m o e) + releases_from (after m e) o h)) (omega arith)
     (lived_from (after m e) h o (n + one_if (releases m o e)) legal.1 (lived_after m e o n legal.0 l))
 
-lived_of : (h : List Entry) (o : ℕ) → IsLegal h → Lived (state_of h) o (releases_in h o)
+pub lived_of : (h : List Entry) (o : ℕ) → IsLegal h → Lived (state_of h) o (releases_in h o)
 lived_of h o legal = lived_as (state_of h) o (0 + releases_in h o) (releases_in h o) (omega arith) (lived_from start h o 0 legal (lived_start o))
 
 at_most_one : (b : Bool) → one_if b ≤ 1

@@ -104,7 +104,7 @@ falls_made call call' plan next =
 falls_closing : (call call' : InFlight) → IsClosing call' → MakesFall call (Some call') false
 falls_closing call call' ends' = let none = closing_makes call' ends' in record { owes = omega (arith, none.0); comes = omega (arith, none.1) }
 
-makes_fall : (call : InFlight) (slot : Option InFlight) (t : OwnTurn call slot) → MakesFall call slot (is_making call slot t)
+pub makes_fall : (call : InFlight) (slot : Option InFlight) (t : OwnTurn call slot) → MakesFall call slot (is_making call slot t)
 makes_fall call slot (OwnTurn.OwnRefuses w e plan may is) = falls_as call slot _ false is (falls_refused call e)
 makes_fall call slot (OwnTurn.OwnReserves n plan is) = falls_as call slot _ false is (falls_plain call (with_number (Some n) call) Reserve plan refl (record { request = refl; refusal = refl; place = refl }))
 makes_fall call slot (OwnTurn.OwnLooks o plan is) = falls_as call slot _ false is (falls_plain call (with_look o call) Look plan refl (record { request = refl; refusal = refl; place = refl }))
@@ -123,7 +123,7 @@ slot_owes None = refl
 slot_owes (Some call) = refl
 
 -- a sum over the calls, of which one has changed
-calls_sum : (f : Option InFlight → ℕ) (m m' : State) (c : ℕ) (call : InFlight) (g : Option InFlight → Option InFlight) → m'.calls ≡ at_place m.calls c g → call_of m c ≡ Some call → sum_by f m'.calls + f (Some call) ≡ sum_by f m.calls + f (g (Some call))
+pub calls_sum : (f : Option InFlight → ℕ) (m m' : State) (c : ℕ) (call : InFlight) (g : Option InFlight → Option InFlight) → m'.calls ≡ at_place m.calls c g → call_of m c ≡ Some call → sum_by f m'.calls + f (Some call) ≡ sum_by f m.calls + f (g (Some call))
 calls_sum f m m' c call g calls is =
     let stands = call_stands m c call is in
     let here : worth f (slice_get m.calls c) ≡ f (Some call) = ap (worth f) stands in

@@ -6,6 +6,7 @@ pub mod Destroys
 pub mod Effects
 pub mod Events
 pub mod Filed
+pub mod Files
 pub mod Histories
 pub mod Laws
 pub mod Lives
@@ -21,3 +22,4 @@ pub mod Removals
 pub mod Requests
 pub mod States
 pub mod Steps
+pub mod Words

@@ -6,6 +6,7 @@ mod cells;
 mod clients;
 mod events;
 mod filed;
+mod files;
 mod histories;
 mod lives;
 mod numbers;
@@ -13,6 +14,7 @@ mod objects;
 mod reached;
 mod removals;
 mod teardowns;
+mod words;
 
 pub use accounts::{coming_covers, owed_covers};
 pub use calls::{
@@ -22,6 +24,10 @@ pub use cells::{cell_is_one, cells_go_round, last_life, lives_count};
 pub use clients::{calls_go_on, calls_in_flight, calls_in_order};
 pub use events::{events_count, husks_can_go};
 pub use filed::{legal_has_domains, legal_is_filed, legal_torn_well};
+pub use files::{
+    closed_was_torn, made_is_released, opened_stays, over_is_empty, over_is_idle, phase_goes_on,
+    releases_below_enters, tearing_was_torn,
+};
 pub use histories::{legal_goes_on, state_goes_on};
 pub use lives::{destroy_answers, released_at_most_once, released_once, users_first};
 pub use numbers::make_has_room;
@@ -40,3 +46,4 @@ pub use teardowns::{
     files_stand_apart, finds_free, open_is_open, phases_stand_apart, sweep_begins, sweep_ends,
     sweep_goes_on, sweep_kills, sweep_leaves, sweep_releases, sweep_shows,
 };
+pub use words::{call_silent, destroy_ends, step_keeps_request};
