@@ -54,7 +54,7 @@ or_none false b h = (refl, h)
 
 -- A history that is legal, in parts.
 
-legal_parts : (m : State) (xs ys : List Entry) → IsLegalFrom m (xs ++ ys) → IsLegalFrom m xs × IsLegalFrom (state_from m xs) ys
+pub legal_parts : (m : State) (xs ys : List Entry) → IsLegalFrom m (xs ++ ys) → IsLegalFrom m xs × IsLegalFrom (state_from m xs) ys
 legal_parts m [] ys legal = (tt, legal)
 legal_parts m (x ∷ xs) ys legal = let rest = legal_parts (after m x) xs ys legal.1 in ((legal.0, rest.0), rest.1)
 

@@ -55,3 +55,4 @@ pub mod Sums
 pub mod Sweeping
 pub mod Turning
 pub mod Turns
+pub mod Wording

@@ -46,4 +46,6 @@ pub use teardowns::{
     files_stand_apart, finds_free, open_is_open, phases_stand_apart, sweep_begins, sweep_ends,
     sweep_goes_on, sweep_kills, sweep_leaves, sweep_releases, sweep_shows,
 };
-pub use words::{call_silent, destroy_ends, step_keeps_request};
+pub use words::{
+    call_silent, destroy_ends, refused_ends, step_keeps_request, words_are_steps, words_go_on,
+};
