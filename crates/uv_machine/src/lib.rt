@@ -12,7 +12,7 @@ mod effects;
 mod entry;
 mod file;
 mod judging;
-mod laws;
+pub mod laws;
 mod log;
 mod marks;
 mod object;
@@ -29,9 +29,6 @@ pub use costs::owed_by;
 pub use entry::{Answer, Done, Entry, Word};
 pub use file::{File, FilePhase};
 pub use judging::first_bad;
-pub use laws::{
-    bound_gives_no_more, call_silent, calls_go_on, calls_in_flight, calls_in_order, calls_stand_apart, cell_is_one, cells_go_round, closed_was_torn, coming_covers, destroy_answers, destroy_ends, enters_with_few, events_count, files_stand_apart, finds_free, husks_can_go, idle_is_quiet, keeps_cell, kills_count, last_life, legal_goes_on, legal_has_domains, legal_is_bounded, legal_is_celled, legal_is_filed, legal_is_reached, legal_looks_stand, legal_own_stands, legal_torn_well, legal_uses_stand, lives_count, looks_are_few, made_by_request, made_counts, made_goes_on, made_in_order, made_is_released, make_has_place, make_has_room, objects_stand_apart, open_is_open, opened_stays, over_is_empty, over_is_idle, owed_covers, phase_goes_on, phases_stand_apart, refused_ends, released_at_most_once, released_once, releases_below_enters, releases_count, stands_as_made, stands_by_request, state_goes_on, step_keeps_request, steps_run_out, sweep_begins, sweep_ends, sweep_goes_on, sweep_kills, sweep_leaves, sweep_releases, sweep_shows, sweep_takes_one, sweep_waits, teardown_counts, tearing_was_torn, torn_stays_quiet, users_first, uses_fit, uses_keep_cell, words_are_steps, words_go_on,
-};
 pub use log::Log;
 pub use object::{Binding, Change, Object, Phase};
 pub use outside::{
