@@ -4,12 +4,11 @@ use Rattle.std.specs.Prelude.{◌==◌, sum, slice_get, find, option_map, if◌t
 use Rattle.std.proofs.lemmas.Option.{none-some, same_Some}
 use Rattle.std.proofs.lemmas.Bool.{and_parts, eq-eqb, eqb-true, ne_eqb}
 use Rattle.uv_num.specs.declared.identity.Identity.{Identity}
-use Rattle.uv_num.specs.declared.limits.TheConstants.{CELLS, KINDS}
+use Rattle.uv_num.specs.declared.limits.TheConstants.{ACTOR_PLACES, CELLS, KINDS}
 use Rattle.uv_num.specs.Kind.{kind_place}
 use Rattle.uv_num.specs.Place.{at_place}
 use Rattle.uv_num.proofs.PlaceLaws.{length-at_place}
 use Rattle.uv_pool.specs.Homes.{Homes}
-use Rattle.uv_machine.specs.declared.state.TheConstants.{ACTOR_PLACES}
 use Rattle.uv_machine.specs.declared.entry.Entry.{Entry}
 use Rattle.uv_machine.specs.declared.object.Object.{Object}
 use Rattle.uv_machine.specs.declared.pool.Cell.{Cell}

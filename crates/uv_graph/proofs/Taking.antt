@@ -4,14 +4,13 @@ use Rattle.std.specs.Prelude.{not, ◌&&◌, ◌==◌, sum, slice_get, find, rev
 use Rattle.std.proofs.lemmas.Option.{none-some, same_Some}
 use Rattle.std.proofs.lemmas.Bool.{and_parts, eq-eqb, eqb-true, ne_eqb}
 use Rattle.uv_num.specs.declared.identity.Identity.{Identity}
-use Rattle.uv_num.specs.declared.limits.TheConstants.{CELLS, KINDS, ACTORS}
+use Rattle.uv_num.specs.declared.limits.TheConstants.{ACTORS, ACTOR_PLACES, CELLS, KINDS}
 use Rattle.uv_num.specs.declared.request.Role.{Role}
 use Rattle.uv_num.specs.declared.request.Role.TheVariants.{Destroys}
 use Rattle.uv_num.specs.Kind.{kind_place}
 use Rattle.uv_num.specs.Place.{at_place}
 use Rattle.uv_num.proofs.PlaceLaws.{length-at_place}
 use Rattle.uv_pool.specs.Homes.{Homes}
-use Rattle.uv_machine.specs.declared.state.TheConstants.{ACTOR_PLACES}
 use Rattle.uv_machine.specs.declared.entry.Entry.{Entry}
 use Rattle.uv_machine.specs.declared.entry.Entry.TheVariants.{Step, Kill}
 use Rattle.uv_machine.specs.declared.entry.Word.{Word}

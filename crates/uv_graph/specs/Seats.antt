@@ -1,11 +1,10 @@
 -- What a history says of a cell, and where the cell's deed then is.
 use Rattle.std.specs.Prelude.{ℕ, Bool, true, false, not, ◌&&◌, ◌≡◌, ◌⊎◌, ◌<◌, ◌≤◌, ◌+◌, ◌*◌, List, Option, None, Some, find, option_map, slice_get, sum, length}
 use Rattle.uv_num.specs.declared.identity.Identity.{Identity}
-use Rattle.uv_num.specs.declared.limits.TheConstants.{CELLS, KINDS}
+use Rattle.uv_num.specs.declared.limits.TheConstants.{ACTOR_PLACES, CELLS, KINDS}
 use Rattle.uv_num.specs.Kind.{kind_place}
 use Rattle.uv_pool.specs.declared.deed.Life.{Life}
 use Rattle.uv_pool.specs.Homes.{Homes, deed_at}
-use Rattle.uv_machine.specs.declared.state.TheConstants.{ACTOR_PLACES}
 use Rattle.uv_machine.specs.declared.entry.Entry.{Entry}
 use Rattle.uv_machine.specs.declared.entry.Word.{Word}
 use Rattle.uv_machine.specs.declared.entry.Word.TheVariants.{Reserve, Look, Make, Commit, Act, Lock, Check, Finish, Abort, Free, Exit}

@@ -10,8 +10,8 @@ ghost use Rattle.uv_graph.specs.Begins.{IsFresh, HoldsNone};
 
 use crate::graph::Graph;
 use std::alloc::{AllocError, Global};
-use uv_machine::{ACTOR_PLACES, Entry, Log};
-use uv_num::{CELLS, CLIENTS, KINDS, List, SCRIPT_LINES};
+use uv_machine::{Entry, Log};
+use uv_num::{ACTOR_PLACES, CELLS, CLIENTS, KINDS, List, SCRIPT_LINES};
 use uv_pool::{Deed, Pool};
 
 /// The refused entries of a client that a new graph has room for: as many as a script has lines.

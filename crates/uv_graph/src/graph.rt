@@ -8,8 +8,8 @@ ghost use Rattle.uv_graph.specs.Kept.{spare_of};
 use crate::counts::count_on;
 use crate::out::Out;
 use std::marker::Model;
-use uv_machine::{ACTOR_PLACES, FilePhase, InFlight, Log, Object, Readers};
-use uv_num::{Kind, List};
+use uv_machine::{FilePhase, InFlight, Log, Object, Readers};
+use uv_num::{ACTOR_PLACES, Kind, List};
 use uv_pool::{Deed, Pool};
 
 /// The object graph with its stored history and the deeds of its cells. Contracts see the history, of which the state

@@ -13,7 +13,7 @@ use Rattle.uv_machine.specs.declared.entry.Answer.{Answer}
 use Rattle.uv_machine.specs.declared.entry.Answer.TheVariants as answer
 use Rattle.uv_machine.specs.declared.object.Object.{Object}
 use Rattle.uv_machine.specs.declared.call.InFlight.{InFlight}
-use Rattle.uv_machine.specs.declared.state.TheConstants.{ACTOR_PLACES}
+use Rattle.uv_num.specs.declared.limits.TheConstants.{ACTOR_PLACES}
 use Rattle.uv_machine.specs.declared.state.State.{State}
 use Rattle.uv_machine.specs.States.{call_of, phase_of, is_callable, start}
 use Rattle.uv_machine.specs.Effects.{refusal_in, unless_answered}

@@ -26,7 +26,7 @@ use Rattle.uv_machine.specs.declared.entry.Answer.TheVariants as answer
 use Rattle.uv_machine.specs.declared.entry.Done.{Done}
 use Rattle.uv_machine.specs.declared.entry.Entry.{Entry}
 use Rattle.uv_machine.specs.declared.entry.Entry.TheVariants.{Open, Enter, Step, Unplug, Tear, Kill, Gone, Dissociated, Closed}
-use Rattle.uv_machine.specs.declared.state.TheConstants.{ACTOR_PLACES}
+use Rattle.uv_num.specs.declared.limits.TheConstants.{ACTOR_PLACES}
 use Rattle.uv_machine.specs.declared.object.Object.{Object}
 use Rattle.uv_machine.specs.declared.call.InFlight.{InFlight}
 use Rattle.uv_machine.specs.declared.state.State.{State}

@@ -7,12 +7,11 @@ use Rattle.std.proofs.lemmas.Bool.Decides.{eqb_tells}
 use Rattle.uv_num.specs.declared.errno.Errno.{Errno}
 use Rattle.uv_num.specs.declared.request.Act as request
 use Rattle.uv_num.specs.declared.request.Act.TheVariants.{Modify, Query, Bind, Unbind, Async}
-use Rattle.uv_machine.specs.declared.state.TheConstants.{ACTOR_PLACES}
+use Rattle.uv_num.specs.declared.limits.TheConstants.{ACTOR_PLACES, FILES}
 use Rattle.uv_machine.specs.declared.entry.Entry.{Entry}
 use Rattle.uv_machine.specs.declared.entry.Entry.TheVariants.{Open, Enter, Step, Unplug, Tear, Kill, Gone, Dissociated, Closed}
 use Rattle.uv_machine.specs.declared.entry.Answer.{Answer}
 use Rattle.uv_machine.specs.declared.entry.Answer.TheVariants as answer
-use Rattle.uv_num.specs.declared.limits.TheConstants.{FILES}
 use Rattle.uv_machine.specs.declared.file.File.{File}
 use Rattle.uv_machine.specs.declared.file.FilePhase.{FilePhase}
 use Rattle.uv_machine.specs.declared.file.FilePhase.TheVariants as file

@@ -15,7 +15,7 @@ use Rattle.uv_num.specs.declared.request.Role.TheVariants.{Creates, Destroys, Ac
 use Rattle.uv_num.specs.Place.{at_place}
 use Rattle.uv_num.specs.Request.{role_of}
 use Rattle.uv_num.proofs.PlaceLaws.{slice_get-at_place_same}
-use Rattle.uv_machine.specs.declared.state.TheConstants.{ACTOR_PLACES}
+use Rattle.uv_num.specs.declared.limits.TheConstants.{ACTOR_PLACES}
 use Rattle.uv_machine.specs.declared.entry.Entry.{Entry}
 use Rattle.uv_machine.specs.declared.entry.Entry.TheVariants.{Open, Enter, Step, Unplug, Tear, Kill, Gone, Dissociated, Closed}
 use Rattle.uv_machine.specs.declared.entry.Word.{Word}

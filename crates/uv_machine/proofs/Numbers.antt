@@ -13,9 +13,8 @@ use Rattle.uv_num.specs.declared.qp.QpState.{QpState}
 use Rattle.uv_num.specs.declared.request.Act as request
 use Rattle.uv_num.specs.declared.request.Act.TheVariants.{Modify, Query, Bind, Unbind, Async}
 use Rattle.uv_num.specs.declared.request.Request.{Request}
-use Rattle.uv_num.specs.declared.limits.TheConstants.{NONE, FILES, HANDLES, MOST_OBJECTS}
+use Rattle.uv_num.specs.declared.limits.TheConstants.{ACTOR_PLACES, FILES, HANDLES, MOST_OBJECTS, NONE}
 use Rattle.uv_num.specs.Place.{at_place}
-use Rattle.uv_machine.specs.declared.state.TheConstants.{ACTOR_PLACES}
 use Rattle.uv_machine.specs.declared.entry.Word.{Word}
 use Rattle.uv_machine.specs.declared.entry.Word.TheVariants.{Reserve, Look, Make, Commit, Act, Lock, Check, Finish, Abort, Free, Exit}
 use Rattle.uv_machine.specs.declared.entry.Answer.{Answer}

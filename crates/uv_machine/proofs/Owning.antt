@@ -5,7 +5,7 @@ use Rattle.std.proofs.lemmas.Option.{none-some, same_Some}
 use Rattle.std.proofs.lemmas.Bool.{and_parts, or_left, eq-eqb, ne_eqb}
 use Rattle.std.proofs.lemmas.Bool.Decides.{eqb_tells}
 use Rattle.uv_num.specs.declared.errno.Errno.{Errno}
-use Rattle.uv_num.specs.declared.limits.TheConstants.{MOST_OBJECTS}
+use Rattle.uv_num.specs.declared.limits.TheConstants.{ACTOR_PLACES, MOST_OBJECTS}
 use Rattle.uv_num.specs.declared.request.Act as request
 use Rattle.uv_num.specs.declared.request.Act.TheVariants.{Modify, Query, Bind, Unbind, Async}
 use Rattle.uv_num.specs.declared.request.Ask.{Ask}
@@ -13,7 +13,6 @@ use Rattle.uv_num.specs.declared.request.Request.{Request}
 use Rattle.uv_num.specs.declared.request.Role.{Role}
 use Rattle.uv_num.specs.declared.request.Role.TheVariants.{Destroys}
 use Rattle.uv_num.specs.Place.{at_place}
-use Rattle.uv_machine.specs.declared.state.TheConstants.{ACTOR_PLACES}
 use Rattle.uv_machine.specs.declared.entry.Entry.{Entry}
 use Rattle.uv_machine.specs.declared.entry.Entry.TheVariants.{Open, Enter, Step, Unplug, Tear, Kill, Gone, Dissociated, Closed}
 use Rattle.uv_machine.specs.declared.entry.Word.{Word}

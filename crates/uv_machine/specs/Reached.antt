@@ -1,7 +1,7 @@
 -- What is true of every state that a legal history leads to.
 use Rattle.std.specs.Prelude.{ℕ, Bool, true, false, ◌≡◌, ◌≢◌, ◌≤◌, ◌<◌, ◌+◌, ◌-◌, ◌||◌, ◌⊎◌, List, [], ◌∷◌, Option, None, Some, length, slice_get, count_by}
 use Rattle.uv_num.specs.declared.errno.Errno.{Errno}
-use Rattle.uv_num.specs.declared.limits.TheConstants.{FILES, HANDLES, CELLS, MOST_OBJECTS}
+use Rattle.uv_num.specs.declared.limits.TheConstants.{ACTOR_PLACES, CELLS, FILES, HANDLES, MOST_OBJECTS}
 use Rattle.uv_num.specs.declared.request.Ask.{Ask}
 use Rattle.uv_num.specs.declared.request.Role.{Role}
 use Rattle.uv_num.specs.declared.request.Role.TheVariants.{Creates, Destroys, Acts}
@@ -9,7 +9,6 @@ use Rattle.uv_num.specs.Ids.{ids_of}
 use Rattle.uv_num.specs.Kind.{kind_rank, kind_place}
 use Rattle.uv_num.specs.Looks.{looks_of}
 use Rattle.uv_num.specs.Request.{role_of}
-use Rattle.uv_machine.specs.declared.state.TheConstants.{ACTOR_PLACES}
 use Rattle.uv_machine.specs.declared.entry.Word.{Word}
 use Rattle.uv_machine.specs.declared.entry.Word.TheVariants.{Reserve, Look, Make, Commit, Act, Lock, Check, Finish, Abort, Free, Exit}
 use Rattle.uv_machine.specs.declared.object.Object.{Object}

@@ -3,8 +3,7 @@ use Rattle.std.specs.Prelude.{ℕ, zero, suc, Bool, true, false, not, ◌&&◌, 
 use Rattle.std.specs.List.{list_any, enumerate_from}
 use Rattle.uv_num.specs.declared.kind.Kind.{Kind}
 use Rattle.uv_num.specs.Kind.{kind_place}
-use Rattle.uv_num.specs.declared.limits.TheConstants.{HANDLES, FILES, DEVICES, KINDS, DRIVER}
-use Rattle.uv_machine.specs.declared.state.TheConstants.{ACTOR_PLACES}
+use Rattle.uv_num.specs.declared.limits.TheConstants.{ACTOR_PLACES, DEVICES, DRIVER, FILES, HANDLES, KINDS}
 use Rattle.uv_machine.specs.declared.object.Object.{Object}
 use Rattle.uv_machine.specs.declared.file.FilePhase.{FilePhase}
 use Rattle.uv_machine.specs.declared.file.FilePhase.TheVariants as file

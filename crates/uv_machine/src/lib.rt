@@ -36,7 +36,7 @@ pub use outside::{
 };
 pub use pool::{Cell, Pool};
 pub use readers::Readers;
-pub use state::{ACTOR_PLACES, State};
+pub use state::State;
 pub use steps::next_step;
 pub use told::Told;
 

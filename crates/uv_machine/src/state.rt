@@ -8,10 +8,7 @@ use crate::file::{File, FilePhase};
 use crate::object::Object;
 use crate::pool::{Cell, Pool};
 use std::alloc::{AllocError, Global};
-use uv_num::{CELLS, DEVICES, FILES, KINDS, MOST_OBJECTS, Room};
-
-/// The places of the table of calls: an actor's number is its place.
-pub const ACTOR_PLACES: usize = 11;
+use uv_num::{ACTOR_PLACES, CELLS, DEVICES, FILES, KINDS, MOST_OBJECTS, Room};
 
 /// The state of the machine.
 #[derive(Drop)]

@@ -1,11 +1,10 @@
 -- The history in which nothing has happened.
 use Rattle.std.proofs.Common.{◌≡◌, ℕ, zero, suc, List, [], Option, None, refl, sym, subst}
 use Rattle.std.specs.Prelude.{replicate, slice_get}
-use Rattle.uv_num.specs.declared.limits.TheConstants.{FILES}
+use Rattle.uv_num.specs.declared.limits.TheConstants.{ACTOR_PLACES, FILES}
 use Rattle.uv_machine.specs.declared.entry.Entry.{Entry}
 use Rattle.uv_machine.specs.declared.file.FilePhase.TheVariants as file
 use Rattle.uv_machine.specs.declared.call.InFlight.{InFlight}
-use Rattle.uv_machine.specs.declared.state.TheConstants.{ACTOR_PLACES}
 use Rattle.uv_machine.specs.States.{start, the_call, phase_in, phase_of, fresh_file}
 use Rattle.uv_machine.specs.Laws.{IsIdle}
 use Rattle.uv_run.specs.Between.{IsBetween, IsFreshOrOpen}
