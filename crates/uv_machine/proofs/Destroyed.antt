@@ -1,8 +1,7 @@
 -- What a destroy's own steps say of how it ends.
-use Rattle.std.proofs.Common.{◌≡◌, ◌≢◌, ◌<◌, ℕ, zero, suc, ◌+◌, Bool, true, false, List, [], ◌∷◌, ◌++◌, Option, Some, None, length, refl, ap, sym, ◌∙◌, subst, arith, ⊎_elim, ◌⊎◌, inl, inr}
+use Rattle.std.proofs.Common.{◌≡◌, ◌<◌, ℕ, zero, suc, Bool, true, false, List, [], ◌∷◌, ◌++◌, Option, Some, None, length, refl, ap, sym, ◌∙◌, subst, arith, ⊎_elim, inl, inr}
 use Rattle.std.specs.Prelude.{not, ◌==◌, slice_get, if◌then◌else◌}
 use Rattle.std.proofs.lemmas.Option.{none-some, same_Some}
-use Rattle.std.proofs.lemmas.Bool.{eq-eqb}
 use Rattle.std.proofs.lemmas.Bool.Decides.{eqb_tells}
 use Rattle.uv_num.specs.declared.errno.Errno.{Errno}
 use Rattle.uv_num.specs.declared.errno.Errno.TheVariants.{NoEnt, Busy, Inval}
@@ -31,16 +30,15 @@ use Rattle.uv_machine.specs.declared.object.Object.{Object}
 use Rattle.uv_machine.specs.declared.call.InFlight.{InFlight}
 use Rattle.uv_machine.specs.declared.state.State.{State}
 use Rattle.uv_machine.specs.Objects.{is_kind}
-use Rattle.uv_machine.specs.Plans.{plan_of, plan_for, next_word, next_place, own_object, entered, freeing, call_answer, answer_behind, moved_on, with_refusal, with_lock, without_lock}
+use Rattle.uv_machine.specs.Plans.{plan_of, next_word, own_object, entered, freeing, call_answer, answer_behind, moved_on, with_refusal, with_lock, without_lock}
 use Rattle.uv_machine.specs.States.{call_of, phase_of, is_callable, published, has_users, has_others, start}
-use Rattle.uv_machine.specs.Steps.{told, lock_refusal, lock_found, lock_told, step_answer, step_of, found_at, next_from}
+use Rattle.uv_machine.specs.Steps.{told, lock_found, lock_told, step_answer, step_of, found_at, next_from}
 use Rattle.uv_machine.specs.Effects.{refusal_in, unless_answered, put_call}
-use Rattle.uv_machine.specs.Histories.{Allowed, after, kept_in, IsLegalFrom, IsLegal, state_from, state_of}
-use Rattle.uv_machine.specs.Laws.{is_of}
+use Rattle.uv_machine.specs.Histories.{Allowed, after, kept_in, IsLegalFrom, state_from, state_of}
 use Rattle.uv_machine.specs.Reached.{look_count, count_of, Reached, HasInDestroy, HasRefused, HasBehind, IsPhased}
 use Rattle.uv_machine.specs.Words.{steps_with, steps_from, steps_of, step_done, is_lock_errno, DestroyEnd, DestroyEnds}
-use Rattle.uv_machine.proofs.Planned.{InPlan, IsClosing, stands_in_plan, next_word-planned, next_word-closing, is_closing, next_place-in_plan, closing_abort, closing_free}
-use Rattle.uv_machine.proofs.Phased.{destroy_has, looks_in}
+use Rattle.uv_machine.proofs.Planned.{InPlan, IsClosing, stands_in_plan, next_word-planned, is_closing, next_place-in_plan, closing_abort, closing_free}
+use Rattle.uv_machine.proofs.Phased.{destroy_has}
 use Rattle.uv_machine.proofs.Turns as turns
 use Rattle.uv_machine.proofs.Turns.{Turn, IsTurn-allowed, may_refuse}
 use Rattle.uv_machine.proofs.Turns.Turn.{Refuses, Reserves, Looks, Makes, Commits, Does, Locks, Checks, Finishes, Aborts, Frees, Leaves}

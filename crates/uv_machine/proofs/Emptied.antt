@@ -1,10 +1,10 @@
 -- A whole teardown: as many kills and releases as objects stood; and one that had to wait for calls.
-use Rattle.std.proofs.Common.{◌≡◌, ◌≢◌, ℕ, zero, suc, ◌+◌, Bool, true, false, List, [], ◌∷◌, ◌++◌, Option, Some, None, count_by, refl, ap, sym, ◌∙◌, subst, arith, ⊎_elim, ◌⊎◌, inl, inr}
-use Rattle.std.specs.Prelude.{not, ◌&&◌, ◌||◌, ◌==◌, slice_get, option_map}
+use Rattle.std.proofs.Common.{◌≡◌, ◌≢◌, ℕ, suc, Bool, true, false, List, [], ◌∷◌, ◌++◌, Option, Some, None, refl, ap, sym, ◌∙◌, arith, ⊎_elim}
+use Rattle.std.specs.Prelude.{not, ◌&&◌, ◌||◌, slice_get}
 use Rattle.std.specs.List.{list_any}
 use Rattle.std.specs.Cmp.Derive.{both_true}
 use Rattle.std.proofs.lemmas.Option.{none-some, same_Some}
-use Rattle.std.proofs.lemmas.Bool.{and_parts, eqb-true, eq-eqb, ne_eqb}
+use Rattle.std.proofs.lemmas.Bool.{and_parts, eqb-true, eq-eqb}
 use Rattle.std.proofs.lemmas.Bool.Decides.{eqb_tells}
 use Rattle.uv_num.specs.declared.qp.QpState.{QpState}
 use Rattle.uv_machine.specs.declared.entry.Entry.{Entry}
@@ -12,7 +12,6 @@ use Rattle.uv_machine.specs.declared.entry.Entry.TheVariants.{Open, Enter, Step,
 use Rattle.uv_machine.specs.declared.entry.Word.{Word}
 use Rattle.uv_machine.specs.declared.entry.Word.TheVariants.{Commit, Finish, Exit}
 use Rattle.uv_machine.specs.declared.entry.Answer.{Answer}
-use Rattle.uv_machine.specs.declared.file.FilePhase.TheVariants as file
 use Rattle.uv_machine.specs.declared.object.Object.{Object}
 use Rattle.uv_machine.specs.declared.object.Phase.{Phase}
 use Rattle.uv_machine.specs.declared.object.Phase.TheVariants as phase
@@ -20,14 +19,14 @@ use Rattle.uv_machine.specs.declared.call.InFlight.{InFlight}
 use Rattle.uv_machine.specs.declared.state.State.{State}
 use Rattle.uv_machine.specs.Accounts.{one_if}
 use Rattle.uv_machine.specs.Objects.{in_file, is_made, is_live, is_doomed, is_husk, is_live_in, is_doomed_in, is_standing_in}
-use Rattle.uv_machine.specs.Plans.{next_word, entered, is_call_on}
-use Rattle.uv_machine.specs.States.{the_call, call_of, phase_of, is_quiet, is_tearing, has_doomed, has_standing, newest_free, start}
+use Rattle.uv_machine.specs.Plans.{next_word, is_call_on}
+use Rattle.uv_machine.specs.States.{the_call, call_of, phase_of, is_quiet, is_tearing, has_doomed, has_standing, start}
 use Rattle.uv_machine.specs.Effects.{after_step}
 use Rattle.uv_machine.specs.Outside.{is_swept}
 use Rattle.uv_machine.specs.Histories.{Allowed, after, IsLegalFrom, IsLegal, state_from, state_of}
-use Rattle.uv_machine.specs.Laws.{IsSwept, standing_count, is_of, moves}
+use Rattle.uv_machine.specs.Laws.{standing_count, is_of, moves}
 use Rattle.uv_machine.specs.Reached.{IsIn, IsHeldFor, Reached}
-use Rattle.uv_machine.specs.Removals.{live_count, is_of_file, kills_of, gone_of, ends_of, kills_through, gone_through, IsTeardown, SweepTakesOne, TeardownCounts, SweepWaits}
+use Rattle.uv_machine.specs.Removals.{live_count, is_of_file, gone_of, ends_of, kills_through, gone_through, SweepTakesOne, TeardownCounts, SweepWaits}
 use Rattle.uv_machine.proofs.GoingOn.{state_from-snoc, IsLegalFrom-snoc}
 use Rattle.uv_machine.proofs.Members.{fails_any, list_any-none}
 use Rattle.uv_machine.proofs.Sums.{count_by-none}
@@ -37,7 +36,6 @@ use Rattle.uv_machine.proofs.Apart.{call_of-after}
 use Rattle.uv_machine.proofs.Clients.{stays_or_leaves}
 use Rattle.uv_machine.proofs.FilesApart.{phase_of-apart}
 use Rattle.uv_machine.proofs.Calling.{quiet_none, false_unless, call_of-other}
-use Rattle.uv_machine.proofs.Keeping.{phase_cases}
 use Rattle.uv_machine.proofs.Reaching.{Reached-after, Reached-state_of}
 use Rattle.uv_machine.proofs.Sweeping.{IsSwept-tear, object_with-killed, may_kill-swept, may_go-killed}
 use Rattle.uv_machine.proofs.Emptying.{count_agrees, swept_after, standing_after, live_after, closed_empty, dissociated_empty, releases_count}

@@ -1,26 +1,21 @@
 -- What becomes of the objects of a file that is torn down and has no calls, counted.
-use Rattle.std.proofs.Common.{◌≡◌, ◌≢◌, ◌<◌, ℕ, ◌+◌, inl, inr, Bool, true, false, List, [], ◌∷◌, ◌++◌, Option, Some, None, cond, count_by, map, refl, ap, sym, ◌∙◌, subst, arith, ⊎_elim}
+use Rattle.std.proofs.Common.{◌≡◌, ◌≢◌, ◌<◌, ℕ, ◌+◌, inl, inr, Bool, true, false, List, [], ◌∷◌, ◌++◌, Option, Some, None, cond, count_by, map, refl, ap, sym, ◌∙◌, arith, ⊎_elim}
 use Rattle.std.specs.Prelude.{not, ◌&&◌, ◌==◌, nat_lt, filter, length, reverse, if◌then◌else◌}
 use Rattle.std.specs.List.{list_any}
 use Rattle.std.specs.Cmp.Derive.{both_true}
 use Rattle.std.proofs.lemmas.Option.{none-some}
-use Rattle.std.proofs.lemmas.Bool.{and_parts, eqb-true, eqb-false, eq-eqb, ne_eqb}
+use Rattle.std.proofs.lemmas.Bool.{and_parts, eqb-true, eq-eqb, ne_eqb}
 use Rattle.std.proofs.lemmas.Bool.Decides.{eqb_tells}
-use Rattle.std.proofs.lemmas.List.{append_assoc}
 use Rattle.uv_num.specs.declared.errno.Errno.{Errno}
 use Rattle.uv_num.specs.declared.errno.Errno.TheVariants.{Inval}
 use Rattle.uv_num.specs.declared.limits.TheConstants.{DRIVER, MOST_OBJECTS}
-use Rattle.uv_num.specs.declared.qp.QpState.{QpState}
 use Rattle.uv_num.specs.declared.request.Act as request
 use Rattle.uv_num.specs.declared.request.Act.TheVariants.{Modify, Query, Bind, Unbind, Async}
 use Rattle.uv_num.specs.declared.request.Request.{Request}
 use Rattle.uv_num.specs.Place.{at_place}
 use Rattle.uv_machine.specs.declared.entry.Entry.{Entry}
 use Rattle.uv_machine.specs.declared.entry.Entry.TheVariants.{Open, Enter, Step, Unplug, Tear, Kill, Gone, Dissociated, Closed}
-use Rattle.uv_machine.specs.declared.entry.Word.{Word}
-use Rattle.uv_machine.specs.declared.entry.Word.TheVariants.{Commit, Check, Finish}
 use Rattle.uv_machine.specs.declared.entry.Answer.{Answer}
-use Rattle.uv_machine.specs.declared.entry.Answer.TheVariants as answer
 use Rattle.uv_machine.specs.declared.file.FilePhase.{FilePhase}
 use Rattle.uv_machine.specs.declared.file.FilePhase.TheVariants as file
 use Rattle.uv_machine.specs.declared.object.Phase.{Phase}
@@ -32,20 +27,18 @@ use Rattle.uv_machine.specs.declared.object.Change.TheVariants.{ToLive, ToDoomed
 use Rattle.uv_machine.specs.declared.call.InFlight.{InFlight}
 use Rattle.uv_machine.specs.declared.state.State.{State}
 use Rattle.uv_machine.specs.Accounts.{one_if}
-use Rattle.uv_machine.specs.Objects.{has_id, in_file, is_live, is_doomed, is_husk, is_live_in, is_doomed_in, is_standing_in, doomed_from, changed, on_object}
+use Rattle.uv_machine.specs.Objects.{has_id, in_file, is_live, is_doomed, is_husk, doomed_from, changed, on_object}
 use Rattle.uv_machine.specs.Plans.{own_object, acted_on, entered, is_call_on}
 use Rattle.uv_machine.specs.States.{call_of, object_with, phase_of, device_of, is_unplugged, is_quiet, is_fresh, is_open, is_callable, is_tearing, is_removing, is_closing, has_users, has_doomed, has_standing, can_go, newest_free, start}
-use Rattle.uv_machine.specs.Effects.{refusal_in, with_new, act, binding_of, with_room_for, not_with_id, not_in_file, gone_from, with_file, opened, unless_answered, put_call}
+use Rattle.uv_machine.specs.Effects.{refusal_in, act, binding_of, not_with_id, not_in_file, gone_from, with_file, opened, unless_answered, put_call}
 use Rattle.uv_machine.specs.Outside.{MayAnswer, is_swept, is_object, may_kill_object, may_kill, may_go_object, may_go}
-use Rattle.uv_machine.specs.Histories.{Allowed, after, IsLegalFrom, IsLegal, state_from, state_of}
-use Rattle.uv_machine.specs.Laws.{IsSwept, standing_count, moves}
-use Rattle.uv_machine.specs.Reached.{IsIn, IsRising, IsHeldFor, Reached}
-use Rattle.uv_machine.specs.Removals.{live_count, is_of_file, kills_of, gone_of, ends_of, kills_through, gone_through, SweepTakesOne, TornStaysQuiet, ReleasesCount, KillsCount, TeardownCounts}
+use Rattle.uv_machine.specs.Histories.{Allowed, after, state_of}
+use Rattle.uv_machine.specs.Laws.{standing_count}
+use Rattle.uv_machine.specs.Reached.{IsIn, IsRising, Reached}
+use Rattle.uv_machine.specs.Removals.{live_count, is_of_file, kills_of, gone_of, ends_of, TornStaysQuiet, ReleasesCount, KillsCount}
 use Rattle.uv_machine.proofs.GoingOn.{state_from-snoc}
 use Rattle.uv_machine.proofs.Members.{count_by-cons, Passes-find, IsIn-from_reverse, fails_any, list_any-none}
 use Rattle.uv_machine.proofs.Members as members
-use Rattle.uv_machine.proofs.Sums.{count_by-none}
-use Rattle.uv_machine.proofs.Planned.{InPlan}
 use Rattle.uv_machine.proofs.Turns.{Turn, object_made, IsTurn-allowed}
 use Rattle.uv_machine.proofs.Turns.Turn.{Refuses, Reserves, Looks, Makes, Commits, Does, Locks, Checks, Finishes, Aborts, Frees, Leaves}
 use Rattle.uv_machine.proofs.OwnCall.{calls_turn}
@@ -54,11 +47,10 @@ use Rattle.uv_machine.proofs.Calling.{quiet_none, quiet_stays, quiet_turn}
 use Rattle.uv_machine.proofs.Changing.{changed_if, on_object-file}
 use Rattle.uv_machine.proofs.Graph.{within_rising}
 use Rattle.uv_machine.proofs.Holding.{finish_objects}
-use Rattle.uv_machine.proofs.Keeping.{same_object, owns_at_commit, owns_at_check, owns_at_finish, phase_cases}
+use Rattle.uv_machine.proofs.Keeping.{same_object, owns_at_commit, owns_at_check, owns_at_finish}
 use Rattle.uv_machine.proofs.FilesApart.{phase_of-apart}
-use Rattle.uv_machine.proofs.Reaching.{was_callable, Reached-after, Reached-state_of}
+use Rattle.uv_machine.proofs.Reaching.{was_callable, Reached-state_of}
 use Rattle.uv_machine.proofs.Balanced.{not_so, not_standing}
-use Rattle.uv_machine.proofs.Sweeping.{IsSwept-tear, object_with-killed, may_kill-swept, may_go-killed}
 
 and_left : (a b : Bool) → (a && b) ≡ true → a ≡ true
 and_left a b h = (and_parts a b h).0

@@ -1,10 +1,9 @@
 -- The releases of a kind, against the calls that entered to create one.
-use Rattle.std.proofs.Common.{◌≡◌, ◌≢◌, ℕ, zero, suc, ◌+◌, ◌≤◌, Bool, true, false, List, [], ◌∷◌, ◌++◌, Option, Some, None, cond, count_by, map, refl, ap, sym, ◌∙◌, subst, arith, ⊎_elim, inl, inr}
-use Rattle.std.specs.Prelude.{not, ◌&&◌, ◌==◌, nat_lt, filter, length, slice_get, option_map, sum_by, replicate, is_none, if◌then◌else◌}
+use Rattle.std.proofs.Common.{◌≡◌, ◌≢◌, ℕ, zero, suc, ◌+◌, ◌≤◌, Bool, true, false, List, [], ◌∷◌, ◌++◌, Option, Some, None, cond, count_by, map, refl, ap, sym, ◌∙◌, arith, ⊎_elim, inl, inr}
+use Rattle.std.specs.Prelude.{not, ◌&&◌, nat_lt, filter, length, slice_get, option_map, sum_by, replicate, is_none, if◌then◌else◌}
 use Rattle.std.proofs.lemmas.List.Sums.{sum_by-cons}
 use Rattle.std.proofs.lemmas.Option.{none-some, same_Some}
-use Rattle.std.proofs.lemmas.Bool.{and_parts, eqb-true, eq-eqb, ne_eqb}
-use Rattle.std.proofs.lemmas.Bool.Decides.{eqb_tells}
+use Rattle.std.proofs.lemmas.Bool.{eqb-true, eq-eqb}
 use Rattle.uv_num.specs.declared.errno.Errno.{Errno}
 use Rattle.uv_num.specs.declared.kind.Kind.{Kind}
 use Rattle.uv_num.specs.declared.limits.TheConstants.{ACTOR_PLACES, MOST_OBJECTS}
@@ -12,8 +11,7 @@ use Rattle.uv_num.specs.declared.qp.QpState.{QpState}
 use Rattle.uv_num.specs.declared.request.Act as request
 use Rattle.uv_num.specs.declared.request.Act.TheVariants.{Modify, Query, Bind, Unbind, Async}
 use Rattle.uv_num.specs.declared.request.Request.{Request}
-use Rattle.uv_num.specs.declared.request.Role.{Role}
-use Rattle.uv_num.specs.declared.request.Role.TheVariants.{Creates, Destroys, Acts}
+use Rattle.uv_num.specs.declared.request.Role.TheVariants.{Creates}
 use Rattle.uv_num.specs.Place.{at_place}
 use Rattle.uv_num.specs.Request.{role_of}
 use Rattle.uv_machine.specs.declared.entry.Word.{Word}
@@ -29,14 +27,13 @@ use Rattle.uv_machine.specs.declared.object.Object.{Object}
 use Rattle.uv_machine.specs.declared.call.InFlight.{InFlight}
 use Rattle.uv_machine.specs.declared.state.State.{State}
 use Rattle.uv_machine.specs.Accounts.{one_if, makes_ahead, making_comes, call_makes}
-use Rattle.uv_machine.specs.Effects.{refusal_in, with_file, opened, act, binding_of, with_room_for, not_with_id, not_in_file, gone_from, unless_answered, put_call}
-use Rattle.uv_machine.specs.Files.{if_doomed_by, if_doomed, released_step, released_by, is_of_kind, kind_releases_from, kind_releases, creates_kind, enters_for, ReleasesBelowEnters}
-use Rattle.uv_machine.specs.Histories.{Allowed, after, IsLegalFrom, IsLegal, state_from, state_of}
+use Rattle.uv_machine.specs.Effects.{refusal_in, with_file, opened, act, binding_of, not_with_id, not_in_file, gone_from, unless_answered, put_call}
+use Rattle.uv_machine.specs.Files.{if_doomed_by, if_doomed, released_step, released_by, is_of_kind, kind_releases_from, creates_kind, enters_for, ReleasesBelowEnters}
+use Rattle.uv_machine.specs.Histories.{Allowed, after, IsLegalFrom, state_from}
 use Rattle.uv_machine.specs.Objects.{has_id, is_kind, is_doomed, is_husk, live_from, doomed_from, changed, on_object}
-use Rattle.uv_machine.specs.Outside.{may_go}
 use Rattle.uv_machine.specs.Plans.{next_word, own_object, acted_on, entered}
-use Rattle.uv_machine.specs.Reached.{IsIn, IsRising, Reached}
-use Rattle.uv_machine.specs.States.{call_of, object_with, start}
+use Rattle.uv_machine.specs.Reached.{IsIn, Reached}
+use Rattle.uv_machine.specs.States.{object_with, start}
 use Rattle.uv_machine.specs.Steps.{told}
 use Rattle.uv_machine.proofs.Members as members
 use Rattle.uv_machine.proofs.Members.{count_by-cons, Passes-find}
@@ -44,13 +41,13 @@ use Rattle.uv_machine.proofs.Sums.{worth, sum_by-at_place_worth}
 use Rattle.uv_machine.proofs.Planned.{InPlan, next_word-planned, next_word-closing}
 use Rattle.uv_machine.proofs.Turns.{Turn, object_made, IsTurn-allowed, may_refuse}
 use Rattle.uv_machine.proofs.Turns.Turn.{Refuses, Reserves, Looks, Makes, Commits, Does, Locks, Checks, Finishes, Aborts, Frees, Leaves}
-use Rattle.uv_machine.proofs.OwnCall.{OwnTurn, CallsTurn, calls_turn}
+use Rattle.uv_machine.proofs.OwnCall.{OwnTurn, calls_turn}
 use Rattle.uv_machine.proofs.Clients.{stays_or_leaves}
 use Rattle.uv_machine.proofs.Holding.{finish_objects}
-use Rattle.uv_machine.proofs.Owing.{MakesFall, is_making, makes_fall, calls_sum}
+use Rattle.uv_machine.proofs.Owing.{is_making, makes_fall, calls_sum}
 use Rattle.uv_machine.proofs.Reaching.{Reached-start, Reached-after}
 use Rattle.uv_machine.proofs.Changing.{changed_if}
-use Rattle.uv_machine.proofs.Emptying.{count_same, count_pushed, count_changed, IsTaken, gone}
+use Rattle.uv_machine.proofs.Emptying.{count_same, count_changed, IsTaken, gone}
 
 -- What counts: the objects of the kind that weren't released, and the calls that can still make one.
 

@@ -1,11 +1,10 @@
 -- What stays of a file once it was opened: its device and its client.
-use Rattle.std.proofs.Common.{◌≡◌, ◌≢◌, ℕ, true, false, List, Option, Some, None, refl, ap, sym, ◌∙◌, ⊎_elim}
+use Rattle.std.proofs.Common.{◌≡◌, ℕ, true, false, List, Option, Some, None, refl, ap, sym, ◌∙◌, ⊎_elim}
 use Rattle.std.specs.Prelude.{slice_get, option_map}
 use Rattle.std.proofs.lemmas.Bool.Decides.{eqb_tells}
 use Rattle.uv_num.specs.declared.errno.Errno.{Errno}
 use Rattle.uv_num.specs.declared.request.Act as request
 use Rattle.uv_num.specs.declared.request.Act.TheVariants.{Modify, Query, Bind, Unbind, Async}
-use Rattle.uv_num.specs.declared.request.Request.{Request}
 use Rattle.uv_num.specs.Place.{at_place}
 use Rattle.uv_num.proofs.PlaceLaws.{slice_get-at_place_same}
 use Rattle.uv_machine.specs.declared.entry.Answer.{Answer}

@@ -1,7 +1,7 @@
 -- How the phases of files go on, and what is left where all files are over.
-use Rattle.std.proofs.Common.{◌≡◌, ◌≢◌, ℕ, zero, suc, ◌+◌, ◌<◌, Bool, true, false, List, [], ◌∷◌, ◌++◌, Option, Some, None, map, refl, ap, sym, ◌∙◌, subst, arith, ⊎_elim, ◌⊎◌, inl, inr}
+use Rattle.std.proofs.Common.{◌≡◌, ◌≢◌, ℕ, zero, suc, ◌<◌, Bool, true, false, List, [], ◌∷◌, ◌++◌, Option, Some, None, map, refl, ap, sym, ◌∙◌, subst, arith, ⊎_elim, ◌⊎◌, inl, inr}
 use Rattle.std.specs.Prelude.{not, ◌&&◌, ◌==◌, nat_lt, filter, replicate, slice_get, option_map, if◌then◌else◌}
-use Rattle.std.proofs.lemmas.Option.{none-some, same_Some}
+use Rattle.std.proofs.lemmas.Option.{none-some}
 use Rattle.std.proofs.lemmas.Bool.{and_parts, eqb-true, eqb-false, eq-eqb, ne_eqb}
 use Rattle.std.proofs.lemmas.Bool.Decides.{eqb_tells, nat_tests}
 use Rattle.std.proofs.lemmas.List.{append_assoc, append-nil}
@@ -13,7 +13,6 @@ use Rattle.uv_num.specs.declared.request.Act as request
 use Rattle.uv_num.specs.declared.request.Act.TheVariants.{Modify, Query, Bind, Unbind, Async}
 use Rattle.uv_num.specs.declared.request.Request.{Request}
 use Rattle.uv_num.specs.Place.{at_place}
-use Rattle.uv_num.proofs.PlaceLaws.{slice_get-at_place_same}
 use Rattle.uv_machine.specs.declared.entry.Word.{Word}
 use Rattle.uv_machine.specs.declared.entry.Answer.{Answer}
 use Rattle.uv_machine.specs.declared.entry.Entry.{Entry}
@@ -27,22 +26,20 @@ use Rattle.uv_machine.specs.declared.object.Object.{Object}
 use Rattle.uv_machine.specs.declared.call.InFlight.{InFlight}
 use Rattle.uv_machine.specs.declared.state.State.{State}
 use Rattle.uv_machine.specs.Accounts.{one_if}
-use Rattle.uv_machine.specs.Effects.{refusal_in, with_file, in_phase, opened, dissociated, event_taken, act, binding_of, with_room_for, not_with_id, not_in_file, gone_from, unless_answered, put_call}
-use Rattle.uv_machine.specs.Files.{client_in, client_of, goes_on_to, PhaseGoesOn, OpenedStays, WasTorn, ClosedWasTorn, TearingWasTorn, is_over, AreOver, OverIsIdle, OverIsEmpty, MadeIsReleased}
+use Rattle.uv_machine.specs.Effects.{refusal_in, with_file, in_phase, opened, dissociated, act, binding_of, not_with_id, not_in_file, gone_from, unless_answered, put_call}
+use Rattle.uv_machine.specs.Files.{goes_on_to, PhaseGoesOn, WasTorn, ClosedWasTorn, TearingWasTorn, is_over, OverIsIdle, OverIsEmpty, MadeIsReleased}
 use Rattle.uv_machine.specs.Histories.{Allowed, after, IsLegalFrom, IsLegal, state_from, state_of}
-use Rattle.uv_machine.specs.Laws.{is_of, moves, IsIdle}
-use Rattle.uv_machine.specs.Lives.{releases_in}
+use Rattle.uv_machine.specs.Laws.{is_of, moves}
 use Rattle.uv_machine.specs.Objects.{in_file, on_object}
 use Rattle.uv_machine.specs.Outside.{MayAnswer}
 use Rattle.uv_machine.specs.Plans.{own_object, acted_on, entered}
 use Rattle.uv_machine.specs.Reached.{IsIn, Reached}
-use Rattle.uv_machine.specs.States.{call_of, object_with, phase_in, phase_of, device_in, device_of, is_unplugged, is_fresh, is_open, is_callable, is_removing, is_closing, is_quiet, has_standing, fresh_file, start}
-use Rattle.uv_machine.proofs.Members.{slice_get-at_place_elsewhere, IsIn-append-left, IsIn-append-right, IsIn-map, Passes-filter}
-use Rattle.uv_machine.proofs.Files.{phase_of-here, buried_files}
+use Rattle.uv_machine.specs.States.{call_of, object_with, phase_in, phase_of, device_of, is_unplugged, is_fresh, is_open, is_callable, is_removing, is_closing, is_quiet, has_standing, fresh_file, start}
+use Rattle.uv_machine.proofs.Members.{IsIn-append-left, IsIn-append-right, IsIn-map, Passes-filter}
+use Rattle.uv_machine.proofs.Files.{phase_of-here}
 use Rattle.uv_machine.proofs.FilesApart.{phase_of-apart}
 use Rattle.uv_machine.proofs.Turns.{Turn, object_made, IsTurn-allowed}
 use Rattle.uv_machine.proofs.Turns.Turn.{Refuses, Reserves, Looks, Makes, Commits, Does, Locks, Checks, Finishes, Aborts, Frees, Leaves}
-use Rattle.uv_machine.proofs.OwnCall.{calls_turn, call_of-changed}
 use Rattle.uv_machine.proofs.Apart.{call_of-after}
 use Rattle.uv_machine.proofs.Calling.{quiet_none}
 use Rattle.uv_machine.proofs.Changing.{on_object-file}
@@ -50,7 +47,7 @@ use Rattle.uv_machine.proofs.Graph.{in_room}
 use Rattle.uv_machine.proofs.Holding.{finish_objects}
 use Rattle.uv_machine.proofs.Silence.{step_keeps_request}
 use Rattle.uv_machine.proofs.Reaching.{start_calls, new_or_old, was_callable, Reached-start, Reached-after}
-use Rattle.uv_machine.proofs.Balanced.{stands_slot, stands_in}
+use Rattle.uv_machine.proofs.Balanced.{stands_in}
 use Rattle.uv_machine.proofs.Lifetimes.{lived_of}
 
 -- What an entry makes of a file's phase.

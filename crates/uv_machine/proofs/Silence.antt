@@ -1,17 +1,14 @@
 -- What steps leave of their own call, and entries of a call that they don't name.
-use Rattle.std.proofs.Common.{◌≡◌, ℕ, Bool, true, false, List, [], ◌∷◌, ◌++◌, Option, Some, None, refl, ap, sym, ◌∙◌, ⊎_elim}
+use Rattle.std.proofs.Common.{◌≡◌, ℕ, Bool, true, false, List, [], ◌∷◌, ◌++◌, Some, refl, ap, sym, ◌∙◌, ⊎_elim}
 use Rattle.std.specs.Prelude.{◌||◌, ◌==◌, if◌then◌else◌}
 use Rattle.std.specs.List.{list_any}
 use Rattle.std.proofs.lemmas.Option.{none-some, same_Some}
-use Rattle.uv_num.specs.declared.qp.QpState.{QpState}
-use Rattle.uv_machine.specs.declared.entry.Word.{Word}
-use Rattle.uv_machine.specs.declared.entry.Answer.{Answer}
 use Rattle.uv_machine.specs.declared.entry.Entry.{Entry}
 use Rattle.uv_machine.specs.declared.entry.Entry.TheVariants.{Open, Enter, Step, Unplug, Tear, Kill, Gone, Dissociated, Closed}
 use Rattle.uv_machine.specs.declared.call.InFlight.{InFlight}
 use Rattle.uv_machine.specs.declared.state.State.{State}
 use Rattle.uv_machine.specs.Calls.{Item, calls_with, calls_from, calls_of}
-use Rattle.uv_machine.specs.Histories.{Allowed, after, state_from, state_of}
+use Rattle.uv_machine.specs.Histories.{after, state_from, state_of}
 use Rattle.uv_machine.specs.Laws.{is_of}
 use Rattle.uv_machine.specs.States.{call_of, start}
 use Rattle.uv_machine.specs.Words.{names_actor, StepKeepsRequest, CallSilent}

@@ -1,6 +1,6 @@
 -- The words that are to come of a call, which its steps make one behind the other.
-use Rattle.std.proofs.Common.{◌≡◌, ◌≢◌, ℕ, zero, suc, ◌+◌, ◌<◌, ◌≤◌, Bool, true, false, List, [], ◌∷◌, ◌++◌, Option, Some, None, count_by, length, drop, replicate, refl, ap, sym, ◌∙◌, subst, arith, ⊎_elim, inl, inr, ◌⊎◌}
-use Rattle.std.specs.Prelude.{◌||◌, ◌==◌, slice_get, sum_by, if◌then◌else◌}
+use Rattle.std.proofs.Common.{◌≡◌, ℕ, zero, suc, ◌+◌, ◌<◌, ◌≤◌, Bool, true, false, List, [], ◌∷◌, ◌++◌, Option, Some, None, count_by, length, drop, replicate, refl, ap, sym, ◌∙◌, subst, arith, ⊎_elim, inl, inr, ◌⊎◌}
+use Rattle.std.specs.Prelude.{◌==◌, slice_get, sum_by, if◌then◌else◌}
 use Rattle.std.specs.List.{list_any}
 use Rattle.std.specs.Option.{is_some}
 use Rattle.std.proofs.lemmas.Option.{none-some, same_Some}
@@ -12,12 +12,10 @@ use Rattle.uv_num.specs.declared.ids.Ids.{Ids}
 use Rattle.uv_num.specs.declared.ids.Ids.TheVariants.{Empty, One, Two, Three, Four}
 use Rattle.uv_num.specs.declared.kind.Kind.{Kind}
 use Rattle.uv_num.specs.declared.qp.QpState.{QpState}
-use Rattle.uv_num.specs.declared.request.Ask.{Ask}
 use Rattle.uv_num.specs.declared.request.Act as request
 use Rattle.uv_num.specs.declared.request.Role.{Role}
 use Rattle.uv_num.specs.declared.request.Role.TheVariants.{Creates, Destroys, Acts}
 use Rattle.uv_num.specs.Ids.{ids_of, ids_and, ids_behind}
-use Rattle.uv_num.specs.Looks.{looks_of}
 use Rattle.uv_num.specs.Request.{role_of}
 use Rattle.uv_machine.specs.declared.entry.Word.{Word}
 use Rattle.uv_machine.specs.declared.entry.Word.TheVariants.{Reserve, Look, Make, Commit, Act, Lock, Check, Finish, Abort, Free, Exit}
@@ -27,10 +25,9 @@ use Rattle.uv_machine.specs.declared.entry.Entry.{Entry}
 use Rattle.uv_machine.specs.declared.entry.Entry.TheVariants.{Open, Enter, Step, Unplug, Tear, Kill, Gone, Dissociated, Closed}
 use Rattle.uv_machine.specs.declared.call.InFlight.{InFlight}
 use Rattle.uv_machine.specs.declared.state.State.{State}
-use Rattle.uv_machine.specs.Accounts.{words_ahead, word_steps, is_make, abort_steps, free_steps, steps_back, steps_on, makes_ahead, steps_behind, steps_ahead}
+use Rattle.uv_machine.specs.Accounts.{words_ahead, word_steps, is_make, abort_steps, steps_back, steps_on, makes_ahead, steps_behind, steps_ahead}
 use Rattle.uv_machine.specs.Effects.{refusal_in, made_outcome}
-use Rattle.uv_machine.specs.Histories.{Allowed, after, kept_in, IsLegalFrom, IsLegal, state_from, state_of}
-use Rattle.uv_machine.specs.Laws.{is_of}
+use Rattle.uv_machine.specs.Histories.{Allowed, after, kept_in, IsLegalFrom, state_from, state_of}
 use Rattle.uv_machine.specs.Plans.{plan_of, plan_for, next_word, look_ask, closing, freeing, with_refusal, with_number, with_look, with_made, with_outcome, with_lock, without_lock, without_number, without_look, moved_on}
 use Rattle.uv_machine.specs.Reached.{look_count, count_of, HasInCreate, HasInDestroy, HasInAct, HasInPlan, IsPhased, Reached}
 use Rattle.uv_machine.specs.Acts.{act_answer}

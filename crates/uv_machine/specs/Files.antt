@@ -1,6 +1,6 @@
 -- What a history says of files: how their phases go on, what stays of an opened file, and that where all files are over
 -- nothing is left: no call, no object, and each object that was made was released.
-use Rattle.std.specs.Prelude.{ℕ, Bool, true, false, not, ◌&&◌, ◌==◌, ◌≡◌, ◌≢◌, ◌<◌, ◌≤◌, ◌+◌, ◌++◌, List, [], ◌∷◌, Option, None, Some, is_none, slice_get, count_by}
+use Rattle.std.specs.Prelude.{ℕ, Bool, true, false, not, ◌&&◌, ◌==◌, ◌≡◌, ◌≢◌, ◌<◌, ◌≤◌, ◌+◌, List, [], ◌∷◌, Option, None, Some, is_none, slice_get, count_by}
 use Rattle.uv_num.specs.declared.kind.Kind.{Kind}
 use Rattle.uv_num.specs.declared.limits.TheConstants.{DRIVER}
 use Rattle.uv_num.specs.declared.request.Role.{Role}

@@ -1,5 +1,5 @@
 -- Deeds: what one tells of itself, when it is new, planted or buried, and what planting and burying make of it.
-use Rattle.std.specs.Prelude.{ℕ, Bool, true, false, ◌≡◌, ◌+◌, ◌++◌, nat_le, List, [], ◌∷◌, Option, None, Some, if◌then◌else◌}
+use Rattle.std.specs.Prelude.{ℕ, Bool, true, false, ◌≡◌, ◌+◌, ◌++◌, nat_le, List, [], ◌∷◌, Option, None, Some}
 use Rattle.uv_num.specs.declared.identity.Identity.{Identity}
 use Rattle.uv_num.specs.declared.kind.Kind.{Kind}
 use Rattle.uv_num.specs.declared.limits.TheConstants.{MOST_GENERATION}

@@ -1,5 +1,5 @@
 -- Full pools of deeds that were never planted.
-use Rattle.std.specs.Prelude.{ℕ, ◌≡◌, ◌<◌, List, Option, Some, length, slice_get}
+use Rattle.std.specs.Prelude.{ℕ, ◌≡◌, ◌<◌, List, Some, length, slice_get}
 use Rattle.uv_num.specs.declared.limits.TheConstants.{CELLS, KINDS}
 use Rattle.uv_num.specs.Kind.{kind_place}
 use Rattle.uv_pool.specs.Deeds.{DeedFacts, IsNewDeed}

@@ -1,5 +1,5 @@
 -- What a plain deed tells, and what it can see of itself.
-use Rattle.std.specs.Prelude.{ℕ, ◌≡◌, List, [], None}
+use Rattle.std.specs.Prelude.{ℕ, ◌≡◌, [], None}
 use Rattle.std.specs.Option.{is_some}
 use Rattle.uv_num.specs.declared.identity.Identity.{Identity}
 use Rattle.uv_num.specs.declared.kind.Kind.{Kind}
