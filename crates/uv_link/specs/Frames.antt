@@ -13,8 +13,8 @@ pub record PlainFrame : Type 0 where
   pub bytes : List ℕ
 
 -- a frame seen so
-abbrev pub plain : Frame → PlainFrame
-plain f = record { from = f.from; to = f.to; bytes = f.bytes.bytes }
+abbrev pub plain_frame : Frame → PlainFrame
+plain_frame f = record { from = f.from; to = f.to; bytes = f.bytes.bytes }
 
 -- the frames with a copy of that at a place at the back, if one stands there
 abbrev pub with_copy : List PlainFrame → ℕ → List PlainFrame

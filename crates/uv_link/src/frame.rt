@@ -1,7 +1,7 @@
 //! Frames.
 
 ghost use Rattle.std.specs.Prelude.{◌≡◌, IfOk};
-ghost use Rattle.uv_link.specs.Frames.{plain};
+ghost use Rattle.uv_link.specs.Frames.{plain_frame};
 
 use std::alloc::{AllocError, Global};
 use uv_num::Bytes;
@@ -22,7 +22,7 @@ pub struct Frame {
 impl Frame {
     /// The same frame once more.
     pub(crate) fn copy(&self, alloc: Global) -> Result<Frame, AllocError>
-        ensures { IfOk result (λ copy. plain copy ≡ plain self.now) }
+        ensures { IfOk result (λ copy. plain_frame copy ≡ plain_frame self.now) }
     {
         Ok(Frame {
             from: self.from,

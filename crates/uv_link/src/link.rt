@@ -3,7 +3,7 @@
 ghost use Rattle.std.specs.Prelude.{◌≡◌, ◌<◌, ◌≤◌, ◌==◌, [], ◌∷◌, length, remove, option_map, IfOk, IfErr, IsErr, IsTrue, OnOk, ◌↔◌};
 ghost use Rattle.uv_num.specs.declared.limits.TheConstants.{LINK_FRAMES};
 ghost use Rattle.uv_queue.specs.Order.{with_newest, oldest, without_oldest};
-ghost use Rattle.uv_link.specs.Frames.{plain, DupGives};
+ghost use Rattle.uv_link.specs.Frames.{plain_frame, DupGives};
 
 use crate::frame::Frame;
 use std::alloc::{AllocError, Global};
@@ -35,11 +35,11 @@ pub struct Link {
 impl Model for Link {
     ghost use Rattle.std.specs.Prelude.{List, length, map, ◌≤◌};
     ghost use Rattle.uv_num.specs.declared.limits.TheConstants.{LINK_FRAMES};
-    ghost use Rattle.uv_link.specs.Frames.{PlainFrame, plain};
+    ghost use Rattle.uv_link.specs.Frames.{PlainFrame, plain_frame};
 
     ghost Value = { List PlainFrame };
 
-    ghost view = { λ l. map plain l.frames };
+    ghost view = { λ l. map plain_frame l.frames };
 
     ghost invariant = { λ l. length l.frames ≤ LINK_FRAMES };
 }
@@ -73,7 +73,7 @@ impl Link {
     /// then if nobody keeps it, and nothing has changed.
     pub fn push(&mut self, frame: Frame) -> Result<(), Frame>
         ensures full { IsErr result ↔ (length self.old ≡ LINK_FRAMES) }
-        ensures pushed { OnOk result (self.new ≡ with_newest self.old (plain frame)) }
+        ensures pushed { OnOk result (self.new ≡ with_newest self.old (plain_frame frame)) }
         ensures back { IfErr result (λ f. (f ≡ frame) × (self.new ≡ self.old)) }
     {
         if self.frames.is_full() {
@@ -86,14 +86,14 @@ impl Link {
     /// Puts a frame before all others, as one that was popped and could not be delivered yet.
     pub fn put_front(&mut self, frame: Frame)
         requires { length self.old < LINK_FRAMES }
-        ensures { self.new ≡ plain frame ∷ self.old }
+        ensures { self.new ≡ plain_frame frame ∷ self.old }
     {
         self.frames.insert(0, frame);
     }
 
     /// Takes the oldest frame out, if there is one. There is room for a frame then.
     pub fn pop(&mut self) -> Option<Frame>
-        ensures oldest { option_map plain result ≡ oldest self.old }
+        ensures oldest { option_map plain_frame result ≡ oldest self.old }
         ensures rest { self.new ≡ without_oldest self.old }
         ensures room { length self.new < LINK_FRAMES }
     {

@@ -10,7 +10,7 @@ use Rattle.uv_region.specs.declared.action.Why.{Why}
 use Rattle.uv_region.specs.declared.piece.Piece.{Piece}
 use Rattle.uv_region.specs.Actions.{PlainAction}
 use Rattle.uv_region.specs.Acting.{after, spent}
-use Rattle.uv_region.specs.Lent.{Lent, Reached, acting, via, reached_allows, lent_allows, with_room, with_acted, lent_with_room, lent_with_rooms, lent_after, IsReady, known, known_reached, StaysKnown}
+use Rattle.uv_region.specs.Lent.{Lent, Reached, acting, via, reached_allows, lent_allows, with_room, with_acted, lent_with_room, lent_with_rooms, lent_after, MayAct, known, known_reached, StaysKnown}
 use Rattle.uv_region.proofs.Lending.{tied_same}
 
 -- a fact of the value at a key, where that of one key was replaced by one of which the same fact is true
@@ -60,7 +60,7 @@ none_is : (o : Option Why) → is_none o ≡ true → o ≡ None
 none_is None h = refl
 none_is (Some w) h = cc
 
-ready_for : (lent : Lent) (kind : Access) (piece : Piece) (bytes : List ℕ) (qp domain : ℕ) (o : Option Reached) → reached_allows o kind piece domain ≡ true → IsReady (with_room lent piece.key 1 o) piece.key (acting kind piece bytes qp domain)
+ready_for : (lent : Lent) (kind : Access) (piece : Piece) (bytes : List ℕ) (qp domain : ℕ) (o : Option Reached) → reached_allows o kind piece domain ≡ true → MayAct (with_room lent piece.key 1 o) piece.key (acting kind piece bytes qp domain)
 ready_for lent kind piece bytes qp domain None h = cc
 ready_for lent kind piece bytes qp domain (Some r) h =
     let v : Reached = (record r.0 { spare = max r.0.spare 1 }, r.1) in
@@ -71,5 +71,5 @@ ready_for lent kind piece bytes qp domain (Some r) h =
       room = omega arith;
     }
 
-pub ready_with_room : (lent : Lent) (kind : Access) (piece : Piece) (bytes : List ℕ) (qp domain : ℕ) → lent_allows lent kind piece domain ≡ true → IsReady (lent_with_room lent piece.key 1) piece.key (acting kind piece bytes qp domain)
+pub ready_with_room : (lent : Lent) (kind : Access) (piece : Piece) (bytes : List ℕ) (qp domain : ℕ) → lent_allows lent kind piece domain ≡ true → MayAct (lent_with_room lent piece.key 1) piece.key (acting kind piece bytes qp domain)
 ready_with_room lent kind piece bytes qp domain h = ready_for lent kind piece bytes qp domain (map.get lent piece.key) h

@@ -10,7 +10,7 @@ use Rattle.uv_region.specs.Registered.{Registered, terms_of}
 use Rattle.uv_region.specs.Replay.{standing, effect, replay_of}
 use Rattle.uv_region.specs.Journals.{PlainJournal, journal_of, IsJournal, IsKept, GoesOn}
 use Rattle.uv_region.specs.Acting.{after}
-use Rattle.uv_region.specs.Lent.{Lent, acting, lent_allows, lent_after, lent_with_room, IsReady, StaysKnown}
+use Rattle.uv_region.specs.Lent.{Lent, acting, lent_allows, lent_after, lent_with_room, MayAct, StaysKnown}
 
 -- An action that is allowed lies inside the region, in unbounded numbers, has its right and the region's domain, and
 -- passes its window; and one of which all this is true is allowed.
@@ -104,8 +104,8 @@ ActionChangesNoTest =
 
 -- What is allowed on a piece may be made, whatever its bytes and whoever acts, once there is room for it.
 
-abbrev pub AllowedIsReady : Type 0
-AllowedIsReady =
+abbrev pub AllowedMayAct : Type 0
+AllowedMayAct =
     (lent : Lent) (kind : Access) (piece : Piece) (bytes : List ℕ) (qp domain : ℕ)
     → lent_allows lent kind piece domain ≡ true
-    → IsReady (lent_with_room lent piece.key 1) piece.key (acting kind piece bytes qp domain)
+    → MayAct (lent_with_room lent piece.key 1) piece.key (acting kind piece bytes qp domain)

@@ -11,9 +11,9 @@ use Rattle.uv_region.specs.declared.action.Window.{Window}
 use Rattle.uv_region.specs.declared.piece.Piece.{Piece}
 use Rattle.uv_region.specs.declared.regions.Keyed.{Keyed}
 use Rattle.uv_region.specs.Actions.{PlainAction}
-use Rattle.uv_region.specs.Refusals.{refusal_of, IsAllowed}
+use Rattle.uv_region.specs.Refusals.{refusal_by, IsAllowed}
 use Rattle.uv_region.specs.Codes.{coded_registered, coded_window}
-use Rattle.uv_region.specs.Registered.{Registered, Known, known_of, terms_of}
+use Rattle.uv_region.specs.Registered.{Registered, KnownRegion, known_of, terms_of}
 use Rattle.uv_region.specs.Acting.{after, spent, read_by}
 
 -- a region, and the window that it is reached through
@@ -66,7 +66,7 @@ demanded kind piece domain window = record {
 -- whether a region that is reached so lets an action pass, and none does where there is no region
 abbrev pub reached_allows : Option Reached → Access → Piece → ℕ → Bool
 reached_allows None kind piece domain = false
-reached_allows (Some r) kind piece domain = is_none (refusal_of (terms_of r.0) (demanded kind piece domain r.1))
+reached_allows (Some r) kind piece domain = is_none (refusal_by (terms_of r.0) (demanded kind piece domain r.1))
 
 -- whether the region of the piece's key is there and lets an action pass
 abbrev pub lent_allows : Lent → Access → Piece → ℕ → Bool
@@ -89,7 +89,7 @@ abbrev pub via : Option Window → PlainAction → PlainAction
 via window a = record a { window = window }
 
 -- an action on the region of a key, which is there, allows it and has room for it
-pub record IsReady (lent : Lent) (key : ℕ) (a : PlainAction) : Type 0 where
+pub record MayAct (lent : Lent) (key : ℕ) (a : PlainAction) : Type 0 where
   pub reached : Reached
   pub there : map.get lent key ≡ Some reached
   pub allowed : IsAllowed (terms_of reached.0) (via reached.1 a)
@@ -125,11 +125,11 @@ lent_with_rooms lent [] more = lent
 lent_with_rooms lent (piece ∷ pieces) more = lent_with_rooms (lent_with_room lent piece.key more) pieces more
 
 -- what counts of a region that is reached so
-abbrev pub known_reached : Reached → Known × Option Window
+abbrev pub known_reached : Reached → KnownRegion × Option Window
 known_reached r = (known_of r.0, r.1)
 
 -- what counts of the region of a key
-abbrev pub known : Lent → ℕ → Option (Known × Option Window)
+abbrev pub known : Lent → ℕ → Option (KnownRegion × Option Window)
 known lent key = option_map known_reached (map.get lent key)
 
 -- nothing that counts has changed: the keys, windows and regions are the same, but for the room of the regions

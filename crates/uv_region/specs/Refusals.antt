@@ -54,8 +54,8 @@ passes None d = true
 passes (Some w) d = is_in_window w d && window_gives w.rights d.kind && (w.domain == d.domain)
 
 -- the first of the tests that fails: bounds, right, domain, window
-abbrev pub refusal_of : Terms → Demand → Option Why
-refusal_of t d =
+abbrev pub refusal_by : Terms → Demand → Option Why
+refusal_by t d =
     if not (is_inside t.length d)
     then Some why.Bounds
     else (if not (has_its_right t.rights d.kind d.window)
@@ -66,7 +66,7 @@ refusal_of t d =
 
 -- the first of the tests that an action fails
 abbrev pub first_refusal : Terms → PlainAction → Option Why
-first_refusal t a = refusal_of t (demand_of a)
+first_refusal t a = refusal_by t (demand_of a)
 
 -- an action that no test refuses
 abbrev pub IsAllowed : Terms → PlainAction → Type 0

@@ -33,7 +33,7 @@ registered object domain size rights bytes actions = record {
 }
 
 -- a region without its room, which is all that counts of it
-pub record Known : Type 0 where
+pub record KnownRegion : Type 0 where
   pub object : ℕ
   pub domain : ℕ
   pub length : ℕ
@@ -42,7 +42,7 @@ pub record Known : Type 0 where
   pub actions : List PlainAction
 
 -- a region seen so
-abbrev pub known_of : Registered → Known
+abbrev pub known_of : Registered → KnownRegion
 known_of r = record {
   object = r.object;
   domain = r.domain;

@@ -1,6 +1,6 @@
 //! Laws of regions and journals.
 
-ghost use Rattle.uv_region.specs.Laws.{AllowedPassesAll, RefusedInOrder, TestsLookAtNoBytes, OutsideStays, WrittenStands, ActedIsKept, ReplayKeepsLength, GoesOnFromItself, GoesOnInTurn, ActedGoesOn, RoomIsNotKnown, RoomChangesNoTest, ActionChangesNoTest, AllowedIsReady};
+ghost use Rattle.uv_region.specs.Laws.{AllowedPassesAll, RefusedInOrder, TestsLookAtNoBytes, OutsideStays, WrittenStands, ActedIsKept, ReplayKeepsLength, GoesOnFromItself, GoesOnInTurn, ActedGoesOn, RoomIsNotKnown, RoomChangesNoTest, ActionChangesNoTest, AllowedMayAct};
 
 /// An action is allowed exactly where it lies inside the region, has its right and the region's domain, and passes its
 /// window.
@@ -69,6 +69,6 @@ pub fn action_changes_no_test()
 {}
 
 /// What is allowed may be made once there is room for it.
-pub fn allowed_is_ready()
-    ensures { AllowedIsReady }
+pub fn allowed_may_act()
+    ensures { AllowedMayAct }
 {}

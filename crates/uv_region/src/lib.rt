@@ -19,7 +19,7 @@ pub use action::{Access, Action, Why, Window};
 pub use bytes::{action_bytes, blank_bytes};
 pub use journal::Journal;
 pub use laws::{
-    acted_goes_on, acted_is_kept, action_changes_no_test, allowed_is_ready, allowed_passes_all,
+    acted_goes_on, acted_is_kept, action_changes_no_test, allowed_may_act, allowed_passes_all,
     goes_on_from_itself, goes_on_in_turn, outside_stays, refused_in_order, replay_keeps_length,
     room_changes_no_test, room_is_not_known, tests_look_at_no_bytes, written_stands,
 };

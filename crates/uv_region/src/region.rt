@@ -3,7 +3,7 @@
 ghost use Rattle.std.specs.Prelude.{◌≡◌, ◌+◌, ◌<◌, ◌≤◌, [], ◌++◌, length, max, IfOk, OnOk, OnErr, true, false};
 ghost use Rattle.uv_num.specs.declared.limits.TheConstants.{REGION_BYTES};
 ghost use Rattle.uv_region.specs.Actions.{plain, is_read};
-ghost use Rattle.uv_region.specs.Refusals.{first_refusal, refusal_of, IsAllowed};
+ghost use Rattle.uv_region.specs.Refusals.{first_refusal, refusal_by, IsAllowed};
 ghost use Rattle.uv_region.specs.Registered.{terms_of};
 ghost use Rattle.uv_region.specs.Journals.{plain_journal, journal_of, IsJournalOf};
 ghost use Rattle.uv_region.specs.Acting.{read_by, length_read, journalled, fresh, after, spent, ActGives};
@@ -143,7 +143,7 @@ impl Region {
 
     /// The first test that fails of an action that demands this.
     pub(crate) fn refusal(&self, demand: Demand) -> Option<Why>
-        ensures { result ≡ refusal_of (terms_of self.now) demand }
+        ensures { result ≡ refusal_by (terms_of self.now) demand }
     {
         if !demand.is_inside(self.size) {
             return Some(Why::Bounds);

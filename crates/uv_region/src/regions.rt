@@ -8,7 +8,7 @@ ghost use Rattle.uv_region.specs.Actions.{is_read};
 ghost use Rattle.uv_region.specs.Refusals.{IsAllowed};
 ghost use Rattle.uv_region.specs.Registered.{terms_of};
 ghost use Rattle.uv_region.specs.Acting.{length_read, read_by, after, spent};
-ghost use Rattle.uv_region.specs.Lent.{entries_of, has_key, reached_at, reached_allows, lent_allows, lent_after, lent_with_room, lent_with_rooms, lent_bytes, StaysKnown, acting, via, IsReady};
+ghost use Rattle.uv_region.specs.Lent.{entries_of, has_key, reached_at, reached_allows, lent_allows, lent_after, lent_with_room, lent_with_rooms, lent_bytes, StaysKnown, acting, via, MayAct};
 
 use crate::action::{Access, Window};
 use crate::piece::{Piece, action_on, allows};
@@ -144,7 +144,7 @@ impl Regions {
         domain: u32,
         out: &mut [u8],
     )
-        requires ready { IsReady self.old piece.key (acting kind piece bytes.bytes qp domain) }
+        requires ready { MayAct self.old piece.key (acting kind piece bytes.bytes qp domain) }
         requires some { 0 < piece.length }
         requires whole { length bytes.bytes ≡ piece.length }
         requires out { length out.old ≡ length_read (acting kind piece bytes.bytes qp domain) }
@@ -175,7 +175,7 @@ impl Regions {
         payload: &mut Bytes,
     )
         requires reads { is_read kind ≡ true }
-        requires ready { IsReady self.old piece.key (acting kind piece held.bytes qp domain) }
+        requires ready { MayAct self.old piece.key (acting kind piece held.bytes qp domain) }
         requires some { 0 < piece.length }
         requires whole { length held.bytes ≡ piece.length }
         requires spare { piece.length ≤ payload.old.spare }
