@@ -8,3 +8,4 @@ mod Drawing
 mod Joined
 mod All
 mod Counted
+mod Raced

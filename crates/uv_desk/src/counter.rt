@@ -83,6 +83,7 @@ impl Machine for Counter {
 }
 
 /// Ends a counter's desk: of each seat the counter has as many entries as the seat knows.
+#[tactic(auto, using(crate::proofs::Counted::are_counted))]
 pub fn close_counter(desk: Desk<Counter>, seats: Vec<DeskSeat<Counter>>) -> Counter
     requires { IsAll desk seats.items }
     ensures { AreCounted result seats.items }
