@@ -32,3 +32,19 @@ pub fn change_at<T, C: Changes<T> + Drop>(items: &mut [T], at: usize, change: C)
         change.change(&mut items[at]);
     }
 }
+
+#[cfg(test)]
+mod tests {
+    use super::*;
+    use std::test::Fail;
+
+    #[test]
+    fn an_item_is_changed_where_there_is_one(rt: HostRuntime) -> Result<(), Fail> {
+        let mut items = [1u32, 2];
+        change_at(&mut items, 1, Put(7));
+        assert_eq!(rt; items, [1, 7]);
+        change_at(&mut items, 2, Put(9));
+        assert_eq!(rt; items, [1, 7]);
+        Ok(())
+    }
+}
