@@ -165,7 +165,7 @@ made_for_step h e legal allowed all x k =
 pub made_by_request : MadeByRequest
 made_by_request h x legal k = by_history AllMadeFor (λ y none. absurd none) made_for_step h legal x k
 
-at_in : (xs : List Object) (j : ℕ) (x : Object) → slice_get xs j ≡ Some x → IsIn x xs
+pub at_in : (xs : List Object) (j : ℕ) (x : Object) → slice_get xs j ≡ Some x → IsIn x xs
 at_in [] j x e = absurd (none-some x e)
 at_in (y ∷ xs) zero x e = inl (sym (same_Some y x e))
 at_in (y ∷ xs) (suc j) x e = inr (at_in xs j x e)

@@ -46,6 +46,7 @@ pub mod Phased
 pub mod Phases
 pub mod Planned
 pub mod Reaching
+pub mod ReleasedKept
 pub mod Releases
 pub mod Rounds
 pub mod Silence

@@ -1,5 +1,5 @@
 -- Laws of objects: what they are made for, what they use, which cells they have, and what bindings give.
-use Rattle.std.specs.Prelude.{ℕ, Bool, ◌==◌, true, false, ◌≡◌, ◌≢◌, ◌≤◌, ◌+◌, ◌++◌, List, [], ◌∷◌, Option, None, Some, length, map, slice_get}
+use Rattle.std.specs.Prelude.{ℕ, Bool, ◌==◌, true, false, ◌≡◌, ◌≢◌, ◌≤◌, ◌+◌, ◌++◌, List, [], ◌∷◌, Option, None, Some, length, map, slice_get, count_by}
 use Rattle.uv_num.specs.declared.access.TheConstants.{ACCESS_LOCAL_WRITE, ACCESS_REMOTE_WRITE, ACCESS_MW_BIND}
 use Rattle.uv_num.specs.declared.kind.Kind.{Kind}
 use Rattle.uv_num.specs.declared.kind.Kind.TheVariants.{Mr, Mw}
@@ -19,10 +19,11 @@ use Rattle.uv_machine.specs.declared.object.Binding.{Binding}
 use Rattle.uv_machine.specs.declared.object.Object.{Object}
 use Rattle.uv_machine.specs.declared.pool.Cell.{Cell}
 use Rattle.uv_machine.specs.declared.state.State.{State}
-use Rattle.uv_machine.specs.Objects.{is_live, is_husk, uses_object, region_length, region_access, domain_of}
+use Rattle.uv_machine.specs.Objects.{has_id, is_live, is_husk, uses_object, region_length, region_access, domain_of}
 use Rattle.uv_machine.specs.Histories.{Allowed, after, IsLegal, state_of}
 use Rattle.uv_machine.specs.Reached.{IsIn, cell_in, HasCell}
-use Rattle.uv_machine.specs.Made.{made_in, new_by, listed, is_at, lives_at, gives, gives_from}
+use Rattle.uv_machine.specs.Lives.{releases_in}
+use Rattle.uv_machine.specs.Made.{has_live_cell, released_in, made_in, new_by, listed, is_at, lives_at, gives, gives_from}
 
 -- The objects ever made.
 
@@ -206,3 +207,13 @@ abbrev pub ObjectsStandApart : Type 0
 ObjectsStandApart =
     (m : State) (e : Entry) (x : Object) → Allowed m e → IsIn x m.objects → names_object x.id e ≡ false → closes_file x.file e ≡ false
     → IsIn x (after m e).objects
+
+-- The objects that a history releases are those that its entries release, each as often.
+abbrev pub ReleasedCounts : Type 0
+ReleasedCounts = (h : List Entry) (o : ℕ) → IsLegal h → count_by (has_id o) (released_in h) ≡ releases_in h o
+
+-- A kind, an index and a generation are the live cell of one object.
+abbrev pub LiveCellIsOne : Type 0
+LiveCellIsOne =
+    (h : List Entry) (kind : Kind) (index generation : ℕ) (x y : Object) → IsLegal h → IsIn x (state_of h).objects → IsIn y (state_of h).objects
+    → has_live_cell kind index generation x ≡ true → has_live_cell kind index generation y ≡ true → x ≡ y

@@ -20,7 +20,7 @@ pub use accounts::{coming_covers, owed_covers};
 pub use calls::{
     calls_stand_apart, enters_with_few, idle_is_quiet, looks_are_few, make_has_place, steps_run_out,
 };
-pub use cells::{cell_is_one, cells_go_round, last_life, lives_count};
+pub use cells::{cell_is_one, cells_go_round, last_life, live_cell_is_one, lives_count};
 pub use clients::{calls_go_on, calls_in_flight, calls_in_order};
 pub use events::{events_count, husks_can_go};
 pub use filed::{legal_has_domains, legal_is_filed, legal_torn_well};
@@ -33,7 +33,8 @@ pub use lives::{destroy_answers, released_at_most_once, released_once, users_fir
 pub use numbers::make_has_room;
 pub use objects::{
     bound_gives_no_more, keeps_cell, made_by_request, made_counts, made_goes_on, made_in_order,
-    objects_stand_apart, stands_as_made, stands_by_request, uses_fit, uses_keep_cell,
+    objects_stand_apart, released_counts, stands_as_made, stands_by_request, uses_fit,
+    uses_keep_cell,
 };
 pub use reached::{
     legal_is_bounded, legal_is_celled, legal_is_reached, legal_looks_stand, legal_own_stands,

@@ -1,6 +1,6 @@
 //! Laws on the cells of objects.
 
-ghost use Rattle.uv_machine.specs.ObjectLaws.{LivesCount, CellIsOne, LastLife, CellsGoRound};
+ghost use Rattle.uv_machine.specs.ObjectLaws.{LivesCount, CellIsOne, LastLife, CellsGoRound, LiveCellIsOne};
 
 /// The lives of a cell have the generations 0, 1, 2 ..
 pub fn lives_count()
@@ -21,4 +21,9 @@ pub fn last_life()
 /// is given too.
 pub fn cells_go_round()
     ensures { CellsGoRound }
+{}
+
+/// One object at most is made or live under a kind, an index and a generation.
+pub fn live_cell_is_one()
+    ensures { LiveCellIsOne }
 {}

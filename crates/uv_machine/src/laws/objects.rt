@@ -1,6 +1,6 @@
 //! Laws on objects: what they are made for, what they use, and which cells they have.
 
-ghost use Rattle.uv_machine.specs.ObjectLaws.{MadeGoesOn, MadeInOrder, MadeCounts, StandsAsMade, KeepsCell, MadeByRequest, StandsByRequest, UsesFit, UsesKeepCell, BoundGivesNoMore, ObjectsStandApart};
+ghost use Rattle.uv_machine.specs.ObjectLaws.{MadeGoesOn, MadeInOrder, MadeCounts, StandsAsMade, KeepsCell, MadeByRequest, StandsByRequest, UsesFit, UsesKeepCell, BoundGivesNoMore, ObjectsStandApart, ReleasedCounts};
 
 /// The objects ever made go on with the history.
 pub fn made_goes_on()
@@ -58,4 +58,9 @@ pub fn bound_gives_no_more()
 /// An entry leaves each object as it is that it doesn't name; when a file is closed its objects go.
 pub fn objects_stand_apart()
     ensures { ObjectsStandApart }
+{}
+
+/// The objects that a history releases are those that its entries release, each as often.
+pub fn released_counts()
+    ensures { ReleasedCounts }
 {}
