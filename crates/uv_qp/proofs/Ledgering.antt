@@ -1,8 +1,6 @@
 -- What a ledger keeps as works are completed.
-use Rattle.std.proofs.Common.{◌≡◌, ℕ, ◌+◌, Bool, true, false, ◌||◌, List, [], ◌∷◌, ◌++◌, Some, length, map, drop, filter, slice_get, refl, sym, ◌∙◌, ap, subst, append_assoc, arith, length-append}
+use Rattle.std.proofs.Common.{◌≡◌, ℕ, ◌+◌, true, ◌||◌, List, [], ◌∷◌, ◌++◌, Some, length, map, drop, slice_get, sym, ◌∙◌, ap, subst, append_assoc, arith, length-append}
 use Rattle.std.proofs.lemmas.List.{map-append, drop-drop}
-use Rattle.std.proofs.lemmas.Fn.{filter_same}
-use Rattle.std.specs.List.Retain.{IsFiltered}
 use Rattle.std.specs.List.{list_all}
 use Rattle.uv_wr.specs.declared.completion.Completion.{Completion}
 use Rattle.uv_wr.specs.Statuses.{is_failure}
