@@ -9,7 +9,7 @@ use Rattle.uv_wr.specs.declared.completion.Completion.{Completion}
 use Rattle.uv_cq.specs.declared.ring.Arming.{Arming}
 use Rattle.uv_cq.specs.declared.ring.Arming.TheVariants.{All}
 use Rattle.uv_cq.specs.Rings.{Ringed, has_room, armed_again}
-use Rattle.uv_cq.specs.Uses.{Use, UseInOrder, AreJoined, IsInOrder, IsMarked, StaysArmed, HasFewEndings, after_use, after_uses, told_by, told_in, kept_by, kept_in, loses, loses_in, is_disarming, armings_in, endings_in}
+use Rattle.uv_cq.specs.Uses.{Use, UseInOrder, AreJoined, AreInOrder, IsMarked, StaysArmed, HasFewEndings, after_use, after_uses, told_by, told_in, kept_by, kept_by_uses, loses, loses_in, is_disarming, armings_in, endings_in}
 use Rattle.uv_cq.specs.Uses.Use.{Pushes, Polls, Arms, Disarms}
 
 oldest_first : (xs : List Completion) → option_to_list (oldest xs) ++ without_oldest xs ≡ xs ++ []
@@ -27,14 +27,14 @@ one_in_order r Polls = oldest_first r.completions
 one_in_order r (Arms solicited) = sym (append-nil r.completions)
 one_in_order r Disarms = sym (append-nil r.completions)
 
-pub in_order : (r : Ringed) (uses : List Use) → IsInOrder r uses
+pub in_order : (r : Ringed) (uses : List Use) → AreInOrder r uses
 in_order r [] = sym (append-nil r.completions)
 in_order r (u ∷ uses) =
     append_assoc (told_by r u) (told_in (after_use r u) uses) (after_uses (after_use r u) uses).completions
     ∙ ap (λ v. told_by r u ++ v) (in_order (after_use r u) uses)
-    ∙ sym (append_assoc (told_by r u) (after_use r u).completions (kept_in (after_use r u) uses))
-    ∙ ap (λ v. v ++ kept_in (after_use r u) uses) (one_in_order r u)
-    ∙ append_assoc r.completions (kept_by r u) (kept_in (after_use r u) uses)
+    ∙ sym (append_assoc (told_by r u) (after_use r u).completions (kept_by_uses (after_use r u) uses))
+    ∙ ap (λ v. v ++ kept_by_uses (after_use r u) uses) (one_in_order r u)
+    ∙ append_assoc r.completions (kept_by r u) (kept_by_uses (after_use r u) uses)
 
 marked_at_put : (room : Bool) (r : Ringed) (c : Completion) → (if room then record r { completions = with_newest r.completions c } else record r { overrun = true }).overrun ≡ (r.overrun || not room)
 marked_at_put true r c = sym (or-false r.overrun)
@@ -68,11 +68,11 @@ joined_ring : (r : Ringed) (uses more : List Use) → after_uses r (uses ++ more
 joined_ring r [] more = refl
 joined_ring r (u ∷ uses) more = joined_ring (after_use r u) uses more
 
-joined_kept : (r : Ringed) (uses more : List Use) → kept_in r (uses ++ more) ≡ kept_in r uses ++ kept_in (after_uses r uses) more
+joined_kept : (r : Ringed) (uses more : List Use) → kept_by_uses r (uses ++ more) ≡ kept_by_uses r uses ++ kept_by_uses (after_uses r uses) more
 joined_kept r [] more = refl
 joined_kept r (u ∷ uses) more =
     ap (λ v. kept_by r u ++ v) (joined_kept (after_use r u) uses more)
-    ∙ sym (append_assoc (kept_by r u) (kept_in (after_use r u) uses) (kept_in (after_uses (after_use r u) uses) more))
+    ∙ sym (append_assoc (kept_by r u) (kept_by_uses (after_use r u) uses) (kept_by_uses (after_uses (after_use r u) uses) more))
 
 joined_told : (r : Ringed) (uses more : List Use) → told_in r (uses ++ more) ≡ told_in r uses ++ told_in (after_uses r uses) more
 joined_told r [] more = refl

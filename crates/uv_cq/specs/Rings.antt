@@ -15,8 +15,8 @@ pub record Ringed : Type 0 where
   pub overrun : Bool
 
 -- a ring without completions
-abbrev pub fresh : ℕ → Ringed
-fresh depth = record { completions = []; depth = depth; armed = None; overrun = false }
+abbrev pub fresh_ring : ℕ → Ringed
+fresh_ring depth = record { completions = []; depth = depth; armed = None; overrun = false }
 
 -- whether one more completion is kept
 abbrev pub has_room : Ringed → Bool

@@ -33,9 +33,9 @@ kept_by r (Arms solicited) = []
 kept_by r Disarms = []
 
 -- those that are kept, in order
-abbrev pub kept_in : Ringed → List Use → List Completion
-kept_in r [] = []
-kept_in r (u ∷ uses) = kept_by r u ++ kept_in (after_use r u) uses
+abbrev pub kept_by_uses : Ringed → List Use → List Completion
+kept_by_uses r [] = []
+kept_by_uses r (u ∷ uses) = kept_by r u ++ kept_by_uses (after_use r u) uses
 
 -- the completion that a use takes out
 abbrev pub told_by : Ringed → Use → List Completion
@@ -99,7 +99,7 @@ UseInOrder r u = told_by r u ++ (after_use r u).completions ≡ r.completions ++
 -- some uses, and then more of them, are all of them
 pub record AreJoined (r : Ringed) (uses more : List Use) : Type 0 where
   pub ring : after_uses r (uses ++ more) ≡ after_uses (after_uses r uses) more
-  pub kept : kept_in r (uses ++ more) ≡ kept_in r uses ++ kept_in (after_uses r uses) more
+  pub kept : kept_by_uses r (uses ++ more) ≡ kept_by_uses r uses ++ kept_by_uses (after_uses r uses) more
   pub told : told_in r (uses ++ more) ≡ told_in r uses ++ told_in (after_uses r uses) more
 
 -- a ring is disarmed while it is armed at most as often as it was armed, the arming that it began with included
@@ -107,8 +107,8 @@ abbrev pub HasFewEndings : Ringed → List Use → Type 0
 HasFewEndings r uses = endings_in r uses ≤ armings_in uses + (if is_some r.armed then 1 else 0)
 
 -- what was taken out and then what stands is what stood and then what was kept
-abbrev pub IsInOrder : Ringed → List Use → Type 0
-IsInOrder r uses = told_in r uses ++ (after_uses r uses).completions ≡ r.completions ++ kept_in r uses
+abbrev pub AreInOrder : Ringed → List Use → Type 0
+AreInOrder r uses = told_in r uses ++ (after_uses r uses).completions ≡ r.completions ++ kept_by_uses r uses
 
 -- the mark is set where it was, or where a completion was lost since
 abbrev pub IsMarked : Ringed → List Use → Type 0

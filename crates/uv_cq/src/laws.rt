@@ -3,13 +3,13 @@
 ghost use Rattle.std.specs.Prelude.{◌≡◌, List, Some, false};
 ghost use Rattle.std.specs.List.{list_any};
 ghost use Rattle.uv_cq.specs.Rings.{Ringed};
-ghost use Rattle.uv_cq.specs.Uses.{Use, is_disarming, UseInOrder, AreJoined, IsInOrder, IsMarked, StaysArmed, HasFewEndings};
+ghost use Rattle.uv_cq.specs.Uses.{Use, is_disarming, UseInOrder, AreJoined, AreInOrder, IsMarked, StaysArmed, HasFewEndings};
 ghost use Rattle.uv_cq.specs.declared.ring.Arming.TheVariants.{All};
 
 /// However a ring is used, the completions that were polled and then those that stand are those that stood and then those
 /// that were kept: none of them is lost, doubled or overtaken.
 pub fn completions_in_order()
-    ensures { (r : Ringed) (uses : List Use) → IsInOrder r uses }
+    ensures { (r : Ringed) (uses : List Use) → AreInOrder r uses }
 {}
 
 /// At each use of a ring, what is taken out and then what stands is what stood and then what is kept.

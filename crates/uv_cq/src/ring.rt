@@ -2,7 +2,7 @@
 
 ghost use Rattle.std.specs.Prelude.{◌≡◌, ◌≤◌, ◌&&◌, ◌||◌, length, false, IfOk, ◌↔◌};
 ghost use Rattle.uv_queue.specs.Order.{oldest};
-ghost use Rattle.uv_cq.specs.Rings.{fresh, is_solicited, wants, push_told, after_push, after_poll, after_arm, after_disarm, armed_again};
+ghost use Rattle.uv_cq.specs.Rings.{fresh_ring, is_solicited, wants, push_told, after_push, after_poll, after_arm, after_disarm, armed_again};
 
 use std::alloc::{AllocError, Global};
 use std::marker::Model;
@@ -55,7 +55,7 @@ impl Ring {
     pub fn new(alloc: Global, depth: u32) -> Result<Ring, AllocError>
         requires least { 1 ≤ depth }
         requires most { depth ≤ CQ_DEPTH }
-        ensures { IfOk result (λ r. r ≡ fresh depth) }
+        ensures { IfOk result (λ r. r ≡ fresh_ring depth) }
     {
         Ok(Ring {
             completions: Room::new(alloc)?,

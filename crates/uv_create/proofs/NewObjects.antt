@@ -1,7 +1,7 @@
 -- A make, and the deed that it hands out.
 use Rattle.std.proofs.Common.{◌≡◌, ℕ, None, refl, sym, subst, ◌∙◌}
 use Rattle.uv_num.specs.declared.kind.Kind.{Kind}
-use Rattle.uv_machine.specs.declared.entry.Done.{Done}
+use Rattle.uv_machine.specs.declared.entry.CallStep.{CallStep}
 use Rattle.uv_machine.specs.declared.entry.Entry.{Entry}
 use Rattle.uv_machine.specs.declared.entry.Entry.TheVariants.{Step}
 use Rattle.uv_machine.specs.declared.entry.Word.TheVariants.{Make}
@@ -15,7 +15,7 @@ use Rattle.uv_graph.specs.Stepping.{IsStep}
 use Rattle.uv_graph.specs.Turns.{PlantsFor, step_entry}
 use Rattle.uv_graph.proofs.Stepped.{step_may, plain_entry}
 
-module _ (k : Kept) (c : ℕ) (d : Done) (s : IsStep k c d) (word : d.word ≡ Make) (fine : refusal_in d.answer ≡ None) where
+module _ (k : Kept) (c : ℕ) (d : CallStep) (s : IsStep k c d) (word : d.word ≡ Make) (fine : refusal_in d.answer ≡ None) where
   make_entry : step_entry c d ≡ Step c Make d.object None answer.Ok
   make_entry = plain_entry k c d s Make word fine refl refl
 

@@ -11,11 +11,11 @@ ghost use Rattle.uv_graph.specs.Stepping.{IsStep};
 ghost use Rattle.uv_graph.specs.Turns.{IsReady, StepGives, is_create};
 
 use uv_graph::{Graph, Progress};
-use uv_machine::{Done, Word};
+use uv_machine::{CallStep, Word};
 use uv_pool::Deed;
 
 /// Makes the call's new object, and hands the deed of its cell out.
-fn plant<D: Deed>(graph: &mut Graph<D>, client: u32, done: Done) -> Progress<D>
+fn plant<D: Deed>(graph: &mut Graph<D>, client: u32, done: CallStep) -> Progress<D>
     requires step { IsStep graph.old client done }
     requires word { done.word ≡ word.Make }
     requires fine { refusal_in done.answer ≡ None }
@@ -31,7 +31,7 @@ fn plant<D: Deed>(graph: &mut Graph<D>, client: u32, done: Done) -> Progress<D>
     }
 }
 
-fn take_step<D: Deed>(graph: &mut Graph<D>, client: u32, done: Done) -> Progress<D>
+fn take_step<D: Deed>(graph: &mut Graph<D>, client: u32, done: CallStep) -> Progress<D>
     requires step { IsStep graph.old client done }
     requires ready { IsReady is_create graph.old client }
     ensures gives { StepGives D.facts graph.old graph.new client result }

@@ -5,7 +5,7 @@ use Rattle.uv_num.specs.Each.{Each}
 use Rattle.uv_desk.specs.Seats.{Placed, OneOf, HasNumber, freshes, all_fresh}
 use Rattle.std.specs.Prelude.{Contains, IsPermutation, slice_index_or}
 use Rattle.std.proofs.lemmas.List.Sorted.{Contains-permutation, IsPermutation-sym, length_permutation}
-use Rattle.uv_desk.specs.Gathering.{IsIn}
+use Rattle.uv_desk.specs.Gathering.{IsAmong}
 use Rattle.uv_desk.specs.Laws.{place, NewAreAll, PlacesAreAll, AnyOrderIsAll}
 use Rattle.uv_desk.proofs.Drawing.{each_of_in, in_of_each, the_one, one_of_in}
 
@@ -67,16 +67,16 @@ places_are_all {E} {O} desk before after same all = let len = length_as after be
 }
 
 module _ {X : Type 0} where
-  contains_of_in : (x : X) (xs : List X) → IsIn x xs → Contains xs x
+  contains_of_in : (x : X) (xs : List X) → IsAmong x xs → Contains xs x
   contains_of_in x [] i = absurd i
   contains_of_in x (y ∷ ys) i = ⊎_elim (λ e. (0, omega arith, e)) (λ r. let c = contains_of_in x ys r in let lt = c.1 in (suc c.0, omega arith, c.2)) i
 
-  in_of_place : (x : X) (xs : List X) (k : ℕ) → k < length xs → slice_index_or xs k x ≡ x → IsIn x xs
+  in_of_place : (x : X) (xs : List X) (k : ℕ) → k < length xs → slice_index_or xs k x ≡ x → IsAmong x xs
   in_of_place x [] k lt e = absurd (omega arith)
   in_of_place x (y ∷ ys) zero lt e = inl e
   in_of_place x (y ∷ ys) (suc k) lt e = inr (in_of_place x ys k (omega arith) e)
 
-  in_order_of : (x : X) (xs ys : List X) → IsPermutation xs ys → IsIn x xs → IsIn x ys
+  in_order_of : (x : X) (xs ys : List X) → IsPermutation xs ys → IsAmong x xs → IsAmong x ys
   in_order_of x xs ys p i = let c = Contains-permutation xs ys x p (contains_of_in x xs i) in in_of_place x ys c.0 c.1 c.2
 
 pub any_order_is_all : {E O : Type 0} → AnyOrderIsAll E O

@@ -4,7 +4,7 @@ use Rattle.std.specs.Prelude.{slice_index_or}
 use Rattle.atomic_table.specs.Seated.{TableId}
 use Rattle.uv_num.specs.Each.{Each}
 use Rattle.uv_desk.specs.Seats.{Placed, OneOf, HasNumber, AreAllFrom}
-use Rattle.uv_desk.specs.Gathering.{IsIn, Parts, Drawn}
+use Rattle.uv_desk.specs.Gathering.{IsAmong, Parts, Drawn}
 
 module _ {X : Type 0} where
   -- a list is what stands before one of its places, what stands there, and what stands behind
@@ -46,20 +46,20 @@ module _ {X : Type 0} where
   each_back P [] ys p = p
   each_back P (x ∷ xs) ys p = each_back P xs ys p.1
 
-  pub each_of_in : (P : X → Type 0) (xs : List X) → ((x : X) → IsIn x xs → P x) → Each P xs
+  pub each_of_in : (P : X → Type 0) (xs : List X) → ((x : X) → IsAmong x xs → P x) → Each P xs
   each_of_in P [] f = tt
   each_of_in P (x ∷ xs) f = (f x (inl refl), each_of_in P xs (λ y i. f y (inr i)))
 
-  pub in_of_each : (P : X → Type 0) (xs : List X) (x : X) → Each P xs → IsIn x xs → P x
+  pub in_of_each : (P : X → Type 0) (xs : List X) (x : X) → Each P xs → IsAmong x xs → P x
   in_of_each P [] x e i = absurd i
   in_of_each P (y ∷ ys) x e i = ⊎_elim (λ q. subst P q e.0) (λ q. in_of_each P ys x e.1 q) i
 
   -- one that is of the list, with its fact
-  pub the_one : (P : X → Type 0) (xs : List X) → OneOf P xs → (x : X) × IsIn x xs × P x
+  pub the_one : (P : X → Type 0) (xs : List X) → OneOf P xs → (x : X) × IsAmong x xs × P x
   the_one P [] o = absurd o
   the_one P (x ∷ xs) o = ⊎_elim (λ p. (x, inl refl, p)) (λ p. let r = the_one P xs p in (r.0, inr r.1, r.2)) o
 
-  pub one_of_in : (P : X → Type 0) (xs : List X) (x : X) → IsIn x xs → P x → OneOf P xs
+  pub one_of_in : (P : X → Type 0) (xs : List X) (x : X) → IsAmong x xs → P x → OneOf P xs
   one_of_in P [] x i p = absurd i
   one_of_in P (y ∷ ys) x i p = ⊎_elim (λ q. inl (subst P (sym q) p)) (λ q. inr (one_of_in P ys x q p)) i
 

@@ -17,7 +17,7 @@ use Rattle.uv_desk.specs.declared.view.Kept.{Kept}
 use Rattle.uv_desk.specs.Views.{with_kept}
 use Rattle.uv_desk.specs.Rule.{AreKept, Ordered}
 use Rattle.uv_desk.specs.Seats.{Placed, OneOf, AreAllFrom, IsAll, AreSeats, kept_by, placed, IsPlaced, IsFirst, fresh, freshes}
-use Rattle.uv_desk.specs.Gathering.{IsIn, Parts, Drawn, joined_to, Gathered}
+use Rattle.uv_desk.specs.Gathering.{IsAmong, Parts, Drawn, joined_to, Gathered}
 use Rattle.uv_desk.specs.Fits.{SeatFits, Fits}
 use Rattle.uv_desk.proofs.Keeping.{none_holds_it}
 use Rattle.uv_desk.proofs.Drawing.{all_but, all_behind, each_back, parts_whole, parts_move, one_left, one_stood, each_of_in, in_of_each, the_one, one_of_in}
@@ -99,8 +99,8 @@ module _ {E O : Type 0} where
         authors = subst (λ (n : ℕ). AreBelow n log) (let l = len in omega arith) f.authors;
         each = each_of_in (SeatFits own log) seats
             (λ x i. ⊎_elim (λ q. subst (SeatFits own log) q f.each.0)
-            (λ q. ⊎_elim (λ none. absurd none) (λ s. in_of_each (SeatFits own log) sorted x f.each.1 s) (p.each x (subst (λ (l : List (Placed E O)). IsIn x l) (sym d.left_is) q)))
-            (one_left (λ (y : Placed E O). y ≡ x) d.front d.back first (subst (λ (l : List (Placed E O)). IsIn x l) d.stood i)));
+            (λ q. ⊎_elim (λ none. absurd none) (λ s. in_of_each (SeatFits own log) sorted x f.each.1 s) (p.each x (subst (λ (l : List (Placed E O)). IsAmong x l) (sym d.left_is) q)))
+            (one_left (λ (y : Placed E O). y ≡ x) d.front d.back first (subst (λ (l : List (Placed E O)). IsAmong x l) d.stood i)));
         one_saw = subst (λ (l : List (Placed E O)). OneOf saw l) (sym d.stood)
             (one_stood saw d.front d.back first
             (⊎_elim (λ q. inl q)

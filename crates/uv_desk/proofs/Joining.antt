@@ -15,7 +15,7 @@ use Rattle.uv_order.specs.Names.{NameNobody}
 use Rattle.uv_order.specs.Laws.{LogLaws}
 use Rattle.uv_desk.specs.declared.view.View.{View}
 use Rattle.uv_desk.specs.declared.view.Kept.{Kept}
-use Rattle.uv_desk.specs.Rule.{one_if, IsApart, Knows, Ordered}
+use Rattle.uv_desk.specs.Rule.{counts_if, IsApart, Knows, Ordered}
 use Rattle.uv_desk.specs.Views.{newcomer, guest, further, kept, with_kept}
 use Rattle.uv_desk.proofs.Tickets.{changed_here, changed_else}
 use Rattle.uv_desk.proofs.Keeping.{all_set, other_number, at_new, guests}
@@ -144,7 +144,7 @@ module _ {M E O : Type 0} (history : M → List E) (own : M → ℕ → O) (name
           one_slot = r.one_slot;
           drawn_is = r.drawn_is;
           served_is = r.served_is;
-          counted = let z : one_if (r.ticket g) ≡ 0 = ap one_if free in let c = r.counted in omega arith;
+          counted = let z : counts_if (r.ticket g) ≡ 0 = ap counts_if free in let c = r.counted in omega arith;
           within = r.within;
           apart = r.apart;
           held_by = r.held_by;

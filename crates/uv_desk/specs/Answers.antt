@@ -5,8 +5,8 @@ use Rattle.uv_order.specs.Signed.{entries, sign, Silent}
 use Rattle.uv_order.specs.Names.{AreNamed}
 
 -- the seat knows its own part, and that allows the input
-abbrev pub Allowed : {O I : Type 0} → (O → I → Type 0) → Option O → I → Type 0
-Allowed {O} may own input = (o : O) × (own ≡ Some o) × may o input
+abbrev pub MayMeet : {O I : Type 0} → (O → I → Type 0) → Option O → I → Type 0
+MayMeet {O} may own input = (o : O) × (own ≡ Some o) × may o input
 
 -- the machine's answer at a place of the history that begins with all that the seat had seen
 pub record Answer {E O I U : Type 0} (answers : List E → ℕ → O → I → U → List E → O → Type 0) (names : E → Option ℕ) (number : ℕ) (seen : List (Signed E)) (own : Option O) (input : I) (output : U) (seen' : List (Signed E)) (own' : Option O) : Type 0 where

@@ -7,14 +7,14 @@ use Rattle.uv_desk.specs.declared.view.Kept.{Kept}
 use Rattle.uv_desk.specs.Seats.{Placed, OneOf, AreSeats, kept_by}
 
 -- it is an item of the list
-abbrev pub IsIn : {X : Type 0} → X → List X → Type 0
-IsIn {X} x xs = OneOf (λ (y : X). y ≡ x) xs
+abbrev pub IsAmong : {X : Type 0} → X → List X → Type 0
+IsAmong {X} x xs = OneOf (λ (y : X). y ≡ x) xs
 
 -- the list has the items of these two, and no others
 pub record Parts {X : Type 0} (all one other : List X) : Type 0 where
-  pub each : (x : X) → IsIn x all → IsIn x one ⊎ IsIn x other
-  pub ones : (x : X) → IsIn x one → IsIn x all
-  pub others : (x : X) → IsIn x other → IsIn x all
+  pub each : (x : X) → IsAmong x all → IsAmong x one ⊎ IsAmong x other
+  pub ones : (x : X) → IsAmong x one → IsAmong x all
+  pub others : (x : X) → IsAmong x other → IsAmong x all
 
 -- at that place of the list stands the seat of that number
 abbrev pub IsPlaceOf : {E O : Type 0} → ℕ → List (Placed E O) → ℕ → Type 0

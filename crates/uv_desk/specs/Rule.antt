@@ -17,14 +17,14 @@ use Rattle.uv_desk.specs.declared.view.Kept.{Kept}
 abbrev pub turn : ℕ
 turn = 18446744073709551616
 
-abbrev pub one_if : Option ℕ → ℕ
-one_if None = 0
-one_if (Some _) = 1
+abbrev pub counts_if : Option ℕ → ℕ
+counts_if None = 0
+counts_if (Some _) = 1
 
 -- how many of the first n seats have a ticket
 abbrev pub waiting : (ℕ → Option ℕ) → ℕ → ℕ
 waiting ticket zero = 0
-waiting ticket (suc n) = one_if (ticket n) + waiting ticket n
+waiting ticket (suc n) = counts_if (ticket n) + waiting ticket n
 
 module _ {E O : Type 0} where
   -- what a joined seat had seen is quiet, its own part is the machine's, and the latest that made a turn saw it all

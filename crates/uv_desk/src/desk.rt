@@ -5,7 +5,7 @@ ghost use Rattle.uv_order.specs.declared.signed.TheConstants.{SEATS};
 ghost use Rattle.uv_order.specs.Seen.{longer, Quiet};
 ghost use Rattle.uv_order.specs.Names.{AreNamed, NameNobody};
 ghost use Rattle.uv_desk.specs.Seats.{all_fresh, IsAll};
-ghost use Rattle.uv_desk.specs.Answers.{Allowed, Answer};
+ghost use Rattle.uv_desk.specs.Answers.{MayMeet, Answer};
 ghost use Rattle.uv_desk.specs.Fits.{Fits};
 
 use crate::closing::{draw, gather};
@@ -59,7 +59,7 @@ impl<M: Machine> Desk<M> {
     /// of the history. The seat has then seen that history, and knows its own part after it.
     pub fn turn<R: Wait>(&self, rt: &R, seat: &mut DeskSeat<M>, input: M::Input) -> M::Output
         requires desk { seat.old.desk ≡ self.now }
-        requires may { Allowed M.may seat.old.own input }
+        requires may { MayMeet M.may seat.old.own input }
         ensures seat { seat.new ≡ record seat.old { seen = seat.new.seen; own = seat.new.own } }
         ensures answer { Answer M.answers M.names seat.old.number seat.old.seen seat.old.own input result seat.new.seen seat.new.own }
     {

@@ -5,7 +5,7 @@ ghost use Rattle.uv_order.specs.Seen.{longer, Quiet};
 ghost use Rattle.uv_order.specs.Names.{AreNamed};
 ghost use Rattle.uv_desk.specs.Plays.{Took};
 ghost use Rattle.uv_desk.specs.Seats.{IsSized, IsReady, IsSame};
-ghost use Rattle.uv_desk.specs.Answers.{Allowed, Answer};
+ghost use Rattle.uv_desk.specs.Answers.{MayMeet, Answer};
 
 use crate::machine::Machine;
 use crate::plays::{Board, Chair, Draw, Learn, Look, PassOn, Tell};
@@ -45,7 +45,7 @@ pub fn turn_at<M: Machine, R: Wait>(
 ) -> M::Output
     requires desk { IsSized board.now.table_id × (chair.old.table_id ≡ board.now.table_id) }
     requires ready { IsReady chair.old.me × (chair.old.me.0.number ≡ number) }
-    requires may { Allowed M.may chair.old.me.0.own input }
+    requires may { MayMeet M.may chair.old.me.0.own input }
     ensures same { IsSame chair.old chair.new }
     ensures answer { Answer M.answers M.names chair.old.me.0.number chair.old.me.0.seen chair.old.me.0.own input result chair.new.me.0.seen chair.new.me.0.own }
     ensures kept { chair.new.me ≡ (record chair.old.me.0 { ticket = None; held = None; seen = chair.new.me.0.seen; own = chair.new.me.0.own }, []) }

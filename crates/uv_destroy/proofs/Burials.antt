@@ -4,7 +4,7 @@ use Rattle.std.proofs.lemmas.Option.{same_Some}
 use Rattle.uv_num.specs.declared.limits.TheConstants.{NONE}
 use Rattle.std.specs.Prelude.{unwrap_or}
 use Rattle.uv_machine.specs.declared.entry.Answer.TheVariants as answer
-use Rattle.uv_machine.specs.declared.entry.Done.{Done}
+use Rattle.uv_machine.specs.declared.entry.CallStep.{CallStep}
 use Rattle.uv_machine.specs.declared.entry.Entry.{Entry}
 use Rattle.uv_machine.specs.declared.entry.Entry.TheVariants.{Step}
 use Rattle.uv_machine.specs.declared.entry.Word.TheVariants.{Check, Finish}
@@ -30,7 +30,7 @@ use Rattle.uv_graph.proofs.Stepped.{step_may, plain_entry}
 
 -- A check that meets no refusal.
 
-module _ (k : Kept) (c : ℕ) (d : Done) (s : IsStep k c d) (word : d.word ≡ Check) (fine : refusal_in d.answer ≡ None) where
+module _ (k : Kept) (c : ℕ) (d : CallStep) (s : IsStep k c d) (word : d.word ≡ Check) (fine : refusal_in d.answer ≡ None) where
   check_entry : step_entry c d ≡ Step c Check d.object None answer.Ok
   check_entry = plain_entry k c d s Check word fine refl refl
 
@@ -67,7 +67,7 @@ module _ (k : Kept) (c kept : ℕ) (t : DeedFacts) (f : IsFinishing k c t) (out 
       ∙ ap (λ x. kept_of x kept) has.there
       ∙ all_kept (is_husk has.item.phase) kept (stands_by has.item.phase has.phase)
 
-  abbrev finish_done : Done
+  abbrev finish_done : CallStep
   finish_done = record { word = Finish; object = out.object; found = None; answer = answer.Kept kept }
 
   finish_next : next_of (state_of k.history) c None kept ≡ Some finish_done

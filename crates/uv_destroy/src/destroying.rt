@@ -11,11 +11,16 @@ ghost use Rattle.uv_graph.specs.Stepping.{IsStep};
 ghost use Rattle.uv_graph.specs.Turns.{IsReady, StepGives, IsFinishing, FinishesBy, is_destroy};
 
 use uv_graph::{Graph, Progress};
-use uv_machine::{Done, Object, Readers, Word};
+use uv_machine::{CallStep, Object, Readers, Word};
 use uv_pool::Deed;
 
 /// Takes an object that nothing uses out of use. A husk has been released before, and nothing is to be buried.
-fn retire_object<D: Deed>(graph: &mut Graph<D>, client: u32, done: Done, x: Object) -> Progress<D>
+fn retire_object<D: Deed>(
+    graph: &mut Graph<D>,
+    client: u32,
+    done: CallStep,
+    x: Object,
+) -> Progress<D>
     requires step { IsStep graph.old client done }
     requires word { done.word ≡ word.Check }
     requires fine { refusal_in done.answer ≡ None }
@@ -35,7 +40,7 @@ fn retire_object<D: Deed>(graph: &mut Graph<D>, client: u32, done: Done, x: Obje
     }
 }
 
-fn retire<D: Deed>(graph: &mut Graph<D>, client: u32, done: Done) -> Progress<D>
+fn retire<D: Deed>(graph: &mut Graph<D>, client: u32, done: CallStep) -> Progress<D>
     requires step { IsStep graph.old client done }
     requires word { done.word ≡ word.Check }
     requires fine { refusal_in done.answer ≡ None }
@@ -50,7 +55,7 @@ fn retire<D: Deed>(graph: &mut Graph<D>, client: u32, done: Done) -> Progress<D>
 }
 
 /// Finishes a husk: an object with a deed is finished by `finish`.
-fn finish_husk<D: Deed>(graph: &mut Graph<D>, client: u32, done: Done) -> Progress<D>
+fn finish_husk<D: Deed>(graph: &mut Graph<D>, client: u32, done: CallStep) -> Progress<D>
     requires step { IsStep graph.old client done }
     requires word { done.word ≡ word.Finish }
     ensures gives { StepGives D.facts graph.old graph.new client result }
@@ -60,7 +65,7 @@ fn finish_husk<D: Deed>(graph: &mut Graph<D>, client: u32, done: Done) -> Progre
     graph.go(client, done)
 }
 
-fn take_step<D: Deed>(graph: &mut Graph<D>, client: u32, done: Done) -> Progress<D>
+fn take_step<D: Deed>(graph: &mut Graph<D>, client: u32, done: CallStep) -> Progress<D>
     requires step { IsStep graph.old client done }
     requires ready { IsReady is_destroy graph.old client }
     ensures gives { StepGives D.facts graph.old graph.new client result }

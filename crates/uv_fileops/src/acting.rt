@@ -11,7 +11,7 @@ ghost use Rattle.uv_graph.specs.Turns.{is_act, touches, role_touches, awaits, st
 ghost use Rattle.uv_fileops.specs.Acting.{IsAtAct, IsGoingOn};
 
 use uv_graph::{Graph, Progress};
-use uv_machine::{Answer, Done, InFlight, Readers, Word};
+use uv_machine::{Answer, CallStep, InFlight, Readers, Word};
 use uv_num::{Act, QpState, Role};
 use uv_pool::Deed;
 
@@ -54,7 +54,7 @@ fn awaits(call: InFlight) -> bool
 }
 
 /// Makes an act, or its refusal.
-fn note_act<D: Deed>(graph: &mut Graph<D>, client: u32, done: Done)
+fn note_act<D: Deed>(graph: &mut Graph<D>, client: u32, done: CallStep)
     requires allowed { Allowed (state_of graph.old.history) (step_entry client done) }
     requires word { done.word ≡ word.Act }
     requires none { out_of graph.old client ≡ None }
@@ -69,7 +69,7 @@ fn note_act<D: Deed>(graph: &mut Graph<D>, client: u32, done: Done)
 }
 
 /// Makes the act that a client's call makes next, with the state that it finds.
-fn make_act<D: Deed>(graph: &mut Graph<D>, client: u32, found: Option<QpState>) -> Done
+fn make_act<D: Deed>(graph: &mut Graph<D>, client: u32, found: Option<QpState>) -> CallStep
     requires { IsAtAct graph.old client }
     ensures next { next_of (state_of graph.old.history) client found 0 ≡ Some result }
     ensures word { result.word ≡ word.Act }

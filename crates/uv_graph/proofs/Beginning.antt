@@ -21,7 +21,7 @@ use Rattle.uv_graph.specs.Kept.{Kept, the_out, out_of, kill_of}
 use Rattle.uv_num.specs.declared.identity.Identity.{Identity}
 use Rattle.uv_graph.specs.Lives.{identity_of}
 use Rattle.uv_machine.specs.Logged.{Logged}
-use Rattle.uv_graph.specs.Seats.{stands_at, Seat, seat_of, slot_of, deed_in, seat_place, IsPlaced, IsIdle, IsPoolFor, AreHandedOut, IsTied}
+use Rattle.uv_graph.specs.Seats.{stands_at, Seat, seat_of, slot_of, deed_in, seat_place, IsPlaced, IsUnheld, IsPoolFor, AreHandedOut, IsTied}
 use Rattle.uv_machine.specs.declared.object.Object.{Object}
 use Rattle.uv_machine.specs.States.{phase_of}
 use Rattle.uv_graph.proofs.Filing.{legal_filed}
@@ -69,7 +69,7 @@ module _ {D : Type 0} (tell : D → DeedFacts) (log : Logged) (k : Kept) (pools 
       let its = (new.each n pool.item pool.is).deeds i low' in
       let empty : (seat_of [] n i).holder ≡ None = ap (λ v. option_map identity_of (find (stands_at n i) v)) start_objects in
       let Q : Option Identity → Type 0 = λ v. IsPlaced k (option_map tell (deed_in (slice_get pools n) i)) (option_map tell (slot_of (slice_get held (seat_place n i)))) n i (seat_of [] n i) v in
-      let idle : IsIdle (option_map tell (deed_in (slice_get pools n) i)) n i (seat_of [] n i) = record {
+      let idle : IsUnheld (option_map tell (deed_in (slice_get pools n) i)) n i (seat_of [] n i) = record {
         deed = tell its.deed;
         there = ap (λ s. option_map tell (deed_in s i)) pool.is ∙ ap (option_map tell) its.there;
         idle = record {
@@ -126,7 +126,7 @@ over_none h legal over =
     no_objects (state_of h).objects (λ x k. (let used = (legal_filed h legal).objects x k in let ended = over x.file in cc))
 
 module _ {D : Type 0} (tell : D → DeedFacts) (log : Logged) (k : Kept) (pools : List (Homes D)) (held : List (Option D)) (t : IsTied tell log k pools held) (over : AreOver (state_of log.history)) where
-  idle_all : (n i : ℕ) → n < KINDS → i < CELLS → IsIdle (option_map tell (deed_in (slice_get pools n) i)) n i (seat_of log.history n i)
+  idle_all : (n i : ℕ) → n < KINDS → i < CELLS → IsUnheld (option_map tell (deed_in (slice_get pools n) i)) n i (seat_of log.history n i)
   idle_all n i low low' =
       let free : (seat_of log.history n i).holder ≡ None = ap (λ v. option_map identity_of (find (stands_at n i) v)) (over_none log.history t.legal over) in
       let P : Option Identity → Type 0 = λ v. IsPlaced k (option_map tell (deed_in (slice_get pools n) i)) (option_map tell (slot_of (slice_get held (seat_place n i)))) n i (seat_of log.history n i) v in

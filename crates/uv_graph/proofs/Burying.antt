@@ -23,7 +23,7 @@ use Rattle.uv_machine.specs.declared.object.Change.TheVariants.{ToHusk}
 use Rattle.uv_machine.specs.declared.pool.Cell.{Cell}
 use Rattle.uv_machine.specs.declared.pool.Pool.{Pool}
 use Rattle.uv_machine.specs.declared.state.State.{State}
-use Rattle.uv_machine.specs.Objects.{has_id, is_doomed, is_husk, changed, on_object}
+use Rattle.uv_machine.specs.Objects.{has_id, is_doomed, is_husk, with_change, on_object}
 use Rattle.uv_machine.specs.Cells.{buried, buried_at}
 use Rattle.uv_machine.specs.States.{object_with}
 use Rattle.uv_machine.specs.Effects.{finish, buried_if_doomed, with_burial, with_object, not_with_id, gone_from, after_step}
@@ -34,11 +34,11 @@ use Rattle.uv_machine.proofs.Holding.{finish_objects}
 use Rattle.uv_machine.proofs.Turns.{IsTurn-allowed}
 use Rattle.uv_graph.specs.declared.out.Out.{Out}
 use Rattle.uv_pool.specs.Deeds.{DeedFacts, TellsLives, BehindBy}
-use Rattle.uv_graph.specs.Deeds.{IsBuried}
+use Rattle.uv_graph.specs.Deeds.{IsDeedBuried}
 use Rattle.uv_graph.specs.Kept.{Kept, out_of, kill_of}
 use Rattle.uv_graph.specs.Lives.{identity_of, is_at, new_by, life_in, lives_in}
 use Rattle.uv_machine.specs.Logged.{Logged}
-use Rattle.uv_graph.specs.Seats.{stands_at, holder_of, seat_of, slot_of, deed_in, seat_place, IsPlaced, IsIdle, IsAway, IsFor, IsPoolFor, HasOut, HasKill, IsTied}
+use Rattle.uv_graph.specs.Seats.{stands_at, holder_of, seat_of, slot_of, deed_in, seat_place, IsPlaced, IsUnheld, IsAway, IsFor, IsPoolFor, HasOut, HasKill, IsTied}
 use Rattle.uv_graph.specs.Slots.{put_slot}
 use Rattle.uv_graph.proofs.Finding.{find-map, find-filter, find-none}
 use Rattle.uv_graph.proofs.Handing.{slot_here, slot_other, tied_by}
@@ -124,11 +124,11 @@ module _ (m : State) (r : Reached m) (c : IsCelled m.pools m.objects) (o : ℕ) 
   and_none true = refl
   and_none false = refl
 
-  husk_fails : (n i : ℕ) (b : Bool) (y : Object) → b ≡ true → stands_at n i (if b then changed ToHusk y else y) ≡ false
+  husk_fails : (n i : ℕ) (b : Bool) (y : Object) → b ≡ true → stands_at n i (if b then with_change ToHusk y else y) ≡ false
   husk_fails n i true y e = and_none (is_at n i y)
   husk_fails n i false y e = absurd cc
 
-  unchanged : (n i : ℕ) (b : Bool) (y : Object) → b ≡ false → stands_at n i (if b then changed ToHusk y else y) ≡ stands_at n i y
+  unchanged : (n i : ℕ) (b : Bool) (y : Object) → b ≡ false → stands_at n i (if b then with_change ToHusk y else y) ≡ stands_at n i y
   unchanged n i true y e = absurd cc
   unchanged n i false y e = refl
 
@@ -149,7 +149,7 @@ module _ (m : State) (r : Reached m) (c : IsCelled m.pools m.objects) (o : ℕ) 
       let from = IsIn-map (on_object o ToHusk) y m.objects k in
       ap (stands_at (kind_place x.kind) x.index) from.gives ∙ mapped_none from.item from.within (has_id o from.item) refl
 
-  same_known : (b : Bool) (y : Object) → is_husk (if b then changed ToHusk y else y).phase ≡ false → identity_of (if b then changed ToHusk y else y) ≡ identity_of y
+  same_known : (b : Bool) (y : Object) → is_husk (if b then with_change ToHusk y else y).phase ≡ false → identity_of (if b then with_change ToHusk y else y) ≡ identity_of y
   same_known true y e = absurd cc
   same_known false y e = refl
 
@@ -160,7 +160,7 @@ module _ (m : State) (r : Reached m) (c : IsCelled m.pools m.objects) (o : ℕ) 
       let stands = stands_parts n i (on_object o ToHusk y) (same_at n i apart y p.within (has_id o y) refl ∙ p.test) in
       ap (λ (v : Identity). Some v) (same_known (has_id o y) y stands.standing)
 
-  mapped_apart : (b : Bool) (z y : Object) → IsIn z m.objects → has_id o z ≡ b → y ≡ (if b then changed ToHusk z else z) → is_doomed y.phase ≡ true → StoodApart m x y
+  mapped_apart : (b : Bool) (z y : Object) → IsIn z m.objects → has_id o z ≡ b → y ≡ (if b then with_change ToHusk z else z) → is_doomed y.phase ≡ true → StoodApart m x y
   mapped_apart true z y k is gives d = absurd (let no : is_doomed y.phase ≡ false = ap (λ (v : Object). is_doomed v.phase) gives in cc)
   mapped_apart false z y k is gives d =
       let P : Object → Type 0 = λ v. StoodApart m x v in
@@ -217,7 +217,7 @@ pool_brought {D} n i d machine (Some p) pool e all =
 
 module _ {D : Type 0} (tell : D → DeedFacts) (log log' : Logged) (k k' : Kept) (pools pools' : List (Homes D)) (held held' : List (Option D)) (t : IsTied tell log k pools held)
     (x : Object) (o : ℕ) (there : object_with (state_of log.history) o ≡ Some x) (doomed : is_doomed x.phase ≡ true)
-    (d : D) (out : Out) (for : IsFor out x) (deed : IsBuried (tell d) out log.history) where
+    (d : D) (out : Out) (for : IsFor out x) (deed : IsDeedBuried (tell d) out log.history) where
   stands_x : Standing log.history x
   stands_x = standing_at log.history o x t.legal there (doomed_stands x.phase doomed)
 
@@ -311,7 +311,7 @@ module _ {D : Type 0} (tell : D → DeedFacts) (log log' : Logged) (k k' : Kept)
         ∙ ap (λ s. option_map tell (deed_in s x.index)) (slice_get-at_place_same pools (kind_place x.kind) (brought x.index d) ∙ ap (option_map (brought x.index d)) pool.is)
         ∙ ap (option_map tell) (deed_at-brought_same pool.item x.index d (omega (arith, low, size)))
 
-    idle_x : IsIdle (option_map tell (deed_in (slice_get pools' (kind_place x.kind)) x.index)) (kind_place x.kind) x.index (seat_of log'.history (kind_place x.kind) x.index)
+    idle_x : IsUnheld (option_map tell (deed_in (slice_get pools' (kind_place x.kind)) x.index)) (kind_place x.kind) x.index (seat_of log'.history (kind_place x.kind) x.index)
     idle_x =
         let cell = stands_x.cell in
         let same : out.generation ≡ cell.generation = sym for.generation ∙ stands_x.same in

@@ -26,7 +26,7 @@ use Rattle.uv_machine.specs.declared.object.Change.{Change}
 use Rattle.uv_machine.specs.declared.object.Change.TheVariants.{ToLive, ToDoomed, ToHusk, ToBound}
 use Rattle.uv_machine.specs.declared.call.InFlight.{InFlight}
 use Rattle.uv_machine.specs.declared.state.State.{State}
-use Rattle.uv_machine.specs.Objects.{has_id, is_husk, live_from, doomed_from, bound_uses, changed, on_object}
+use Rattle.uv_machine.specs.Objects.{has_id, is_husk, live_from, doomed_from, bound_uses, with_change, on_object}
 use Rattle.uv_machine.specs.Plans.{acted_on, own_object}
 use Rattle.uv_machine.specs.States.{call_of, object_with, start}
 use Rattle.uv_machine.specs.Effects.{refusal_in, act, binding_of, not_with_id, not_in_file, gone_from, unless_answered}
@@ -79,7 +79,7 @@ bound_one (Some binding) (Two a b) one = refl
 bound_one (Some binding) (Three a b c) one = refl
 bound_one (Some binding) (Four a b c d) one = refl
 
-domain_changed : (b : Bool) (change : Change) (x : Object) → HasDomain x → HasDomain (if b then changed change x else x)
+domain_changed : (b : Bool) (change : Change) (x : Object) → HasDomain x → HasDomain (if b then with_change change x else x)
 domain_changed true ToLive x d kind stands = d kind (live_stands x.phase stands)
 domain_changed true ToDoomed x d kind stands = d kind (doomed_stands x.phase stands)
 domain_changed true ToHusk x d kind stands = absurd cc

@@ -23,7 +23,7 @@ use Rattle.uv_machine.specs.declared.object.Phase.{Phase}
 use Rattle.uv_machine.specs.declared.object.Phase.TheVariants as phase
 use Rattle.uv_machine.specs.declared.call.InFlight.{InFlight}
 use Rattle.uv_machine.specs.declared.state.State.{State}
-use Rattle.uv_machine.specs.Objects.{has_id, is_doomed, is_husk, live_from, doomed_from, changed, on_object}
+use Rattle.uv_machine.specs.Objects.{has_id, is_doomed, is_husk, live_from, doomed_from, with_change, on_object}
 use Rattle.uv_machine.specs.Plans.{acted_on}
 use Rattle.uv_machine.specs.States.{call_of, object_with, home_cell}
 use Rattle.uv_machine.specs.Effects.{refusal_in, with_room_for, new_object, make_at, make, binding_of, act, act_by, commit, check, finish, left, not_with_id, not_in_file, gone_from, unless_answered, unless_refused, stepped, after_step}
@@ -61,7 +61,7 @@ dooms ToDoomed = true
 dooms ToHusk = false
 dooms (ToBound binding) = false
 
-handed_changed : (k : Kept) (b : Bool) (change : Change) (x : Object) → dooms change ≡ false → Handed k x → Handed k (if b then changed change x else x)
+handed_changed : (k : Kept) (b : Bool) (change : Change) (x : Object) → dooms change ≡ false → Handed k x → Handed k (if b then with_change change x else x)
 handed_changed k true ToLive x s h d = h (live_from_doomed x.phase d)
 handed_changed k true ToDoomed x s h d = absurd cc
 handed_changed k true ToHusk x s h d = absurd cc
@@ -74,7 +74,7 @@ handed_map k objects o change s all y i d =
     let P : Object → Type 0 = λ v. Handed k v in
     subst P (sym from.gives) (handed_changed k (has_id o from.item) change from.item s (all from.item from.within)) d
 
-husk_changed : (k : Kept) (b : Bool) (x : Object) → (b ≡ true → is_husk x.phase ≡ true) → Handed k x → Handed k (if b then changed ToDoomed x else x)
+husk_changed : (k : Kept) (b : Bool) (x : Object) → (b ≡ true → is_husk x.phase ≡ true) → Handed k x → Handed k (if b then with_change ToDoomed x else x)
 husk_changed k true x husk h d = absurd (husk_apart x.phase (husk refl) d)
 husk_changed k false x husk h d = h d
 

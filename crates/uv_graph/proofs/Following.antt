@@ -12,7 +12,7 @@ use Rattle.uv_machine.specs.declared.entry.Word.{Word}
 use Rattle.uv_machine.specs.declared.entry.Word.TheVariants.{Reserve, Look, Make, Commit, Act, Lock, Check, Finish, Abort, Free, Exit}
 use Rattle.uv_machine.specs.declared.entry.Answer.{Answer}
 use Rattle.uv_machine.specs.declared.entry.Answer.TheVariants as answer
-use Rattle.uv_machine.specs.declared.entry.Done.{Done}
+use Rattle.uv_machine.specs.declared.entry.CallStep.{CallStep}
 use Rattle.uv_machine.specs.declared.entry.Entry.TheVariants.{Step}
 use Rattle.uv_machine.specs.declared.object.Object.{Object}
 use Rattle.uv_machine.specs.declared.call.InFlight.{InFlight}
@@ -122,8 +122,8 @@ module _ (m : State) (c : ℕ) (call : InFlight) (found : Option QpState) (kept 
   done_again : (w : Word) (t : Told) → done_as m call (found_at call w found) (kept_in (step_answer m call found kept w t.refusal)) w t ≡ done_as m call found kept w t
   done_again w t =
       let again : ℕ = kept_in (step_answer m call found kept w t.refusal) in
-      let with_found : Option QpState → Done = λ f. record { word = w; object = t.object; found = f; answer = step_answer m call (found_at call w found) again w t.refusal } in
-      let with_answer : Answer → Done = λ a. record { word = w; object = t.object; found = found_at call w found; answer = a } in
+      let with_found : Option QpState → CallStep = λ f. record { word = w; object = t.object; found = f; answer = step_answer m call (found_at call w found) again w t.refusal } in
+      let with_answer : Answer → CallStep = λ a. record { word = w; object = t.object; found = found_at call w found; answer = a } in
       ap with_found (found_again w) ∙ ap with_answer (answer_again w t.refusal)
 
   step_again : step_of m c (step_of m c found kept call).found (kept_in (step_of m c found kept call).answer) call ≡ step_of m c found kept call
@@ -132,14 +132,14 @@ module _ (m : State) (c : ℕ) (call : InFlight) (found : Option QpState) (kept 
       let again : ℕ = kept_in (step_answer m call found kept w (told m c call found w).refusal) in
       ap (λ t. done_as m call (found_at call w found) again w t) (told_again w) ∙ done_again w (told m c call found w)
 
-next_from_again : (m : State) (c : ℕ) (found : Option QpState) (kept : ℕ) (d : Done) (slot : Option InFlight) → next_from m c found kept slot ≡ Some d → next_from m c d.found (kept_in d.answer) slot ≡ Some d
+next_from_again : (m : State) (c : ℕ) (found : Option QpState) (kept : ℕ) (d : CallStep) (slot : Option InFlight) → next_from m c found kept slot ≡ Some d → next_from m c d.found (kept_in d.answer) slot ≡ Some d
 next_from_again m c found kept d None e = absurd (none-some d e)
 next_from_again m c found kept d (Some call) e =
-    let P : Done → Type 0 = λ v. Some (step_of m c v.found (kept_in v.answer) call) ≡ Some v in
-    subst P (same_Some _ _ e) (ap (λ (v : Done). Some v) (step_again m c call found kept))
+    let P : CallStep → Type 0 = λ v. Some (step_of m c v.found (kept_in v.answer) call) ≡ Some v in
+    subst P (same_Some _ _ e) (ap (λ (v : CallStep). Some v) (step_again m c call found kept))
 
 -- the step that a call makes next is the one that the machine allows
-pub IsNext-next_of : (m : State) (c : ℕ) (found : Option QpState) (kept : ℕ) (d : Done) → next_of m c found kept ≡ Some d → IsNext m c d
+pub IsNext-next_of : (m : State) (c : ℕ) (found : Option QpState) (kept : ℕ) (d : CallStep) → next_of m c found kept ≡ Some d → IsNext m c d
 IsNext-next_of m c found kept d e = next_from_again m c found kept d (call_of m c) e
 
 -- the next step of a call, by its word and what that says

@@ -23,11 +23,11 @@ use Rattle.uv_machine.specs.declared.object.Change.{Change}
 use Rattle.uv_machine.specs.declared.object.Change.TheVariants.{ToLive, ToDoomed, ToHusk, ToBound}
 use Rattle.uv_machine.specs.declared.call.InFlight.{InFlight}
 use Rattle.uv_machine.specs.declared.state.State.{State}
-use Rattle.uv_machine.specs.Objects.{has_id, is_made, is_doomed, is_husk, is_doomed_in, changed, on_object}
+use Rattle.uv_machine.specs.Objects.{has_id, is_made, is_doomed, is_husk, is_doomed_in, with_change, on_object}
 use Rattle.uv_machine.specs.Plans.{own_object, acted_on, holds, looks_at, entered}
 use Rattle.uv_machine.specs.States.{call_of, object_with, is_quiet, is_tearing, is_fresh, is_open, is_callable, is_closing, is_removing, has_standing, has_doomed, newest_free, phase_of, is_unplugged, device_of}
 use Rattle.uv_machine.specs.Effects.{refusal_in, with_room_for, act, binding_of, not_with_id, not_in_file, gone_from, put_call, unless_answered, with_file, opened}
-use Rattle.uv_machine.specs.Outside.{MayAnswer, may_go_object, may_kill_object, is_object, is_swept}
+use Rattle.uv_machine.specs.Outside.{MayAnswer, may_go_object, may_kill_object, is_object, may_sweep}
 use Rattle.uv_machine.specs.Histories.{Allowed, after}
 use Rattle.uv_machine.specs.Reached.{IsIn, Reached}
 use Rattle.uv_machine.specs.Laws.{is_of}
@@ -69,7 +69,7 @@ module _ (objects : List Object) (o : ℕ) (x : Object) (is : find (has_id o) ob
   mapped : (i : ℕ) (change : Change) → find (has_id o) (map (on_object i change) objects) ≡ Some (on_object i change x)
   mapped i change = find-map (has_id o) (on_object i change) objects (λ y k. ap (λ n. n == o) (on_object-id i change y)) ∙ ap (option_map (on_object i change)) is
 
-  other_is : (b : Bool) (change : Change) → b ≡ false → (if b then changed change x else x) ≡ x
+  other_is : (b : Bool) (change : Change) → b ≡ false → (if b then with_change change x else x) ≡ x
   other_is true change e = absurd cc
   other_is false change e = refl
 
@@ -87,8 +87,8 @@ module _ (objects : List Object) (o : ℕ) (x : Object) (is : find (has_id o) ob
         phase = refl;
       }
 
-  bound_by : (b : Bool) (i : ℕ) (binding : _) → find (has_id o) (map (on_object i (ToBound binding)) objects) ≡ Some (if b then changed (ToBound binding) x else x) → GoesAs (map (on_object i (ToBound binding)) objects) o x
-  bound_by true i binding e = record { item = changed (ToBound binding) x; there = e; kind = refl; file = refl; index = refl; generation = refl; phase = refl }
+  bound_by : (b : Bool) (i : ℕ) (binding : _) → find (has_id o) (map (on_object i (ToBound binding)) objects) ≡ Some (if b then with_change (ToBound binding) x else x) → GoesAs (map (on_object i (ToBound binding)) objects) o x
+  bound_by true i binding e = record { item = with_change (ToBound binding) x; there = e; kind = refl; file = refl; index = refl; generation = refl; phase = refl }
   bound_by false i binding e = record { item = x; there = e; kind = refl; file = refl; index = refl; generation = refl; phase = refl }
 
   -- a bind of any
@@ -306,7 +306,7 @@ module _ (m : State) (r : Reached m) (b : ℕ) (out : Out) (h : HasKill m b out)
 
 no_kill_object : (m : State) (o : ℕ) (x : Object) → object_with m o ≡ Some x → may_kill_object m o (Some x) ≡ true → has_doomed m x.file ≡ false
 no_kill_object m o x e may =
-    let parts = and_parts (is_swept m x.file) (not (has_doomed m x.file) && is_object o (newest_free m x.file)) may in
+    let parts = and_parts (may_sweep m x.file) (not (has_doomed m x.file) && is_object o (newest_free m x.file)) may in
     let none = (and_parts (not (has_doomed m x.file)) (is_object o (newest_free m x.file)) parts.1).0 in
     fails_of (has_doomed m x.file) none
 

@@ -54,11 +54,11 @@ use Rattle.uv_machine.proofs.Turning.{commits_next}
 use Rattle.uv_machine.proofs.Turns.{Made, object_made, IsTurn-allowed}
 use Rattle.uv_graph.specs.declared.out.Out.{Out}
 use Rattle.uv_pool.specs.Deeds.{DeedFacts, TellsLives, TellsBefore}
-use Rattle.uv_graph.specs.Deeds.{IsForNew, out_for}
+use Rattle.uv_graph.specs.Deeds.{IsDeedForNew, out_for}
 use Rattle.uv_graph.specs.Kept.{Kept, the_out, put_out, out_of, kill_of}
 use Rattle.uv_graph.specs.Lives.{identity_of, life_of, is_at, life_if, life_in, new_by, lives_in}
 use Rattle.uv_machine.specs.Logged.{Logged}
-use Rattle.uv_graph.specs.Seats.{stands_at, holder_of, Seat, seat_of, slot_of, deed_in, seat_place, IsPlaced, IsIdle, IsHeldOrAway, IsAway, IsFor, IsPoolFor, is_giving, HasOut, HasKill, AreHandedOut, IsTied}
+use Rattle.uv_graph.specs.Seats.{stands_at, holder_of, Seat, seat_of, slot_of, deed_in, seat_place, IsPlaced, IsUnheld, IsHeldOrAway, IsAway, IsFor, IsPoolFor, is_giving, HasOut, HasKill, AreHandedOut, IsTied}
 use Rattle.uv_graph.specs.Slots.{next_deed, after_draw}
 use Rattle.uv_graph.proofs.Finding.{find-last, find-more_fails, find-none}
 use Rattle.uv_graph.proofs.Going.{HasOut-after, HasKill-after}
@@ -258,7 +258,7 @@ module _ {D : Type 0} (tell : D → DeedFacts) (log log' : Logged) (k k' : Kept)
     free_before : (seat_of log.history (kind_place x.kind) x.index).holder ≡ None
     free_before = ap (option_map identity_of) (find-none (stands_at (kind_place x.kind) x.index) (state_of log.history).objects none_held)
 
-    idle_before : IsIdle (option_map tell (deed_in (slice_get pools (kind_place x.kind)) x.index)) (kind_place x.kind) x.index (seat_of log.history (kind_place x.kind) x.index) × (option_map tell (slot_of (slice_get held (seat_place (kind_place x.kind) x.index))) ≡ None)
+    idle_before : IsUnheld (option_map tell (deed_in (slice_get pools (kind_place x.kind)) x.index)) (kind_place x.kind) x.index (seat_of log.history (kind_place x.kind) x.index) × (option_map tell (slot_of (slice_get held (seat_place (kind_place x.kind) x.index))) ≡ None)
     idle_before =
         let P : Option Identity → Type 0 = λ v. IsPlaced k (option_map tell (deed_in (slice_get pools (kind_place x.kind)) x.index)) (option_map tell (slot_of (slice_get held (seat_place (kind_place x.kind) x.index)))) (kind_place x.kind) x.index (seat_of log.history (kind_place x.kind) x.index) v in
         subst P free_before (t.placed (kind_place x.kind) x.index (kind_within x.kind) low_x)
@@ -319,12 +319,12 @@ module _ {D : Type 0} (tell : D → DeedFacts) (log log' : Logged) (k k' : Kept)
         ∙ ap (λ b. lives_in log.history (kind_place x.kind) x.index ++ life_if b x) (both_true (eq-eqb (kind_place x.kind) (kind_place x.kind) refl) (eq-eqb x.index x.index refl))
 
     -- and it is the new object's
-    pub drawn_for : (d : D) → Some d ≡ next_deed tell (slice_get pools (kind_place x.kind)) → IsForNew (tell d) x log'.history
+    pub drawn_for : (d : D) → Some d ≡ next_deed tell (slice_get pools (kind_place x.kind)) → IsDeedForNew (tell d) x log'.history
     drawn_for d is =
         let idle = idle_before.0 in
         let same : tell d ≡ idle.deed = same_Some (tell d) idle.deed (ap (option_map tell) (is ∙ drawn_is) ∙ idle.there) in
         let cells : idle.idle.cell ≡ home_x.cell = same_Some idle.idle.cell home_x.cell (sym idle.idle.at.is ∙ cell_x) in
-        let P : DeedFacts → Type 0 = λ v. IsForNew v x log'.history in
+        let P : DeedFacts → Type 0 = λ v. IsDeedForNew v x log'.history in
         subst P (sym same)
         (record {
           kind = kind_same idle.deed.kind x.kind idle.idle.at.kind;

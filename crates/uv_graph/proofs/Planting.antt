@@ -23,7 +23,7 @@ use Rattle.uv_machine.proofs.Reaching.{Reached-state_of}
 use Rattle.uv_machine.proofs.CelledTurns.{legal_celled}
 use Rattle.uv_graph.specs.declared.out.Out.{Out}
 use Rattle.uv_pool.specs.Deeds.{DeedFacts, TellsLives}
-use Rattle.uv_graph.specs.Deeds.{IsPlantedFor}
+use Rattle.uv_graph.specs.Deeds.{IsDeedPlantedFor}
 use Rattle.uv_graph.specs.Hands.{ComesPlanted}
 use Rattle.uv_graph.specs.Kept.{Kept, the_out, put_out, out_of, kill_of}
 use Rattle.uv_graph.specs.Lives.{identity_of, lives_in}

@@ -29,7 +29,7 @@ use Rattle.uv_machine.specs.declared.object.Object.{Object}
 use Rattle.uv_machine.specs.declared.object.Change.TheVariants.{ToLive, ToDoomed, ToBound}
 use Rattle.uv_machine.specs.declared.call.InFlight.{InFlight}
 use Rattle.uv_machine.specs.declared.state.State.{State}
-use Rattle.uv_machine.specs.Objects.{has_id, is_live, is_doomed, is_husk, live_from, doomed_from, bound_uses, changed, on_object}
+use Rattle.uv_machine.specs.Objects.{has_id, is_live, is_doomed, is_husk, live_from, doomed_from, bound_uses, with_change, on_object}
 use Rattle.uv_machine.specs.Plans.{acted_on, next_word}
 use Rattle.uv_machine.specs.States.{call_of, object_with, is_quiet, is_closing, has_standing, phase_of}
 use Rattle.uv_machine.specs.Effects.{refusal_in, commit, check, left, act, act_by, binding_of, buried_if_doomed, with_burial, finish, not_with_id, not_in_file, unless_answered, unless_refused, after_step, stepped}
@@ -101,27 +101,27 @@ bound_first (Some binding) (Two a b) one = refl
 bound_first (Some binding) (Three a b c) one = refl
 bound_first (Some binding) (Four a b c d) one = refl
 
-stands_live : (k i : ℕ) (b : Bool) (x : Object) → stands_at k i (if b then changed ToLive x else x) ≡ stands_at k i x
+stands_live : (k i : ℕ) (b : Bool) (x : Object) → stands_at k i (if b then with_change ToLive x else x) ≡ stands_at k i x
 stands_live k i true x = ap (λ h. is_at k i x && not h) (live_husk x.phase)
 stands_live k i false x = refl
 
-stands_doomed : (k i : ℕ) (b : Bool) (x : Object) → stands_at k i (if b then changed ToDoomed x else x) ≡ stands_at k i x
+stands_doomed : (k i : ℕ) (b : Bool) (x : Object) → stands_at k i (if b then with_change ToDoomed x else x) ≡ stands_at k i x
 stands_doomed k i true x = ap (λ h. is_at k i x && not h) (doomed_husk x.phase)
 stands_doomed k i false x = refl
 
-stands_bound : (k i : ℕ) (b : Bool) (binding : Option Binding) (x : Object) → stands_at k i (if b then changed (ToBound binding) x else x) ≡ stands_at k i x
+stands_bound : (k i : ℕ) (b : Bool) (binding : Option Binding) (x : Object) → stands_at k i (if b then with_change (ToBound binding) x else x) ≡ stands_at k i x
 stands_bound k i true binding x = refl
 stands_bound k i false binding x = refl
 
-known_live : (b : Bool) (x : Object) → identity_of (if b then changed ToLive x else x) ≡ identity_of x
+known_live : (b : Bool) (x : Object) → identity_of (if b then with_change ToLive x else x) ≡ identity_of x
 known_live true x = refl
 known_live false x = refl
 
-known_doomed : (b : Bool) (x : Object) → identity_of (if b then changed ToDoomed x else x) ≡ identity_of x
+known_doomed : (b : Bool) (x : Object) → identity_of (if b then with_change ToDoomed x else x) ≡ identity_of x
 known_doomed true x = refl
 known_doomed false x = refl
 
-known_bound : (b : Bool) (binding : Option Binding) (x : Object) → (b ≡ true → (x.kind ≡ Mw) × (has_one x.uses ≡ true)) → identity_of (if b then changed (ToBound binding) x else x) ≡ identity_of x
+known_bound : (b : Bool) (binding : Option Binding) (x : Object) → (b ≡ true → (x.kind ≡ Mw) × (has_one x.uses ≡ true)) → identity_of (if b then with_change (ToBound binding) x else x) ≡ identity_of x
 known_bound true binding x window =
     let e = (window refl).0 in
     let uses : first_uses x.kind (bound_uses binding x.uses) ≡ first_uses x.kind x.uses =

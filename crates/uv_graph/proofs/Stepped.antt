@@ -8,7 +8,7 @@ use Rattle.uv_machine.specs.declared.entry.Word.{Word}
 use Rattle.uv_machine.specs.declared.entry.Word.TheVariants.{Reserve, Look, Make, Commit, Act, Lock, Check, Finish, Abort, Free, Exit}
 use Rattle.uv_machine.specs.declared.entry.Answer.{Answer}
 use Rattle.uv_machine.specs.declared.entry.Answer.TheVariants as answer
-use Rattle.uv_machine.specs.declared.entry.Done.{Done}
+use Rattle.uv_machine.specs.declared.entry.CallStep.{CallStep}
 use Rattle.uv_machine.specs.declared.entry.Entry.{Entry}
 use Rattle.uv_machine.specs.declared.entry.Entry.TheVariants.{Step}
 use Rattle.uv_machine.specs.declared.object.Object.{Object}
@@ -81,7 +81,7 @@ answer_fine : (m : State) (call : InFlight) (w : Word) (r : Option Errno) → re
 answer_fine m call w None e = refl
 answer_fine m call w (Some x) e = absurd (none-some x (sym e))
 
-module _ (k : Kept) (c : ℕ) (d : Done) (s : IsStep k c d) where
+module _ (k : Kept) (c : ℕ) (d : CallStep) (s : IsStep k c d) where
   abbrev state : State
   state = state_of k.history
 
@@ -92,20 +92,20 @@ module _ (k : Kept) (c : ℕ) (d : Done) (s : IsStep k c d) where
   step_is = same_Some (step_of state c None 0 call) d (ap (next_from state c None 0) (sym s.next.is) ∙ s.next.next)
 
   pub word_is : next_word call ≡ d.word
-  word_is = ap (λ (v : Done). v.word) step_is
+  word_is = ap (λ (v : CallStep). v.word) step_is
 
   is_by : (w : Word) → d.word ≡ w → done_as state call None 0 w (told state c call None w) ≡ d
   is_by w e = ap (λ v. done_as state call None 0 v (told state c call None v)) (sym (word_is ∙ e)) ∙ step_is
 
   -- the object that its word names
   pub step_names : (w : Word) → d.word ≡ w → (told state c call None w).object ≡ d.object
-  step_names w e = ap (λ (v : Done). v.object) (is_by w e)
+  step_names w e = ap (λ (v : CallStep). v.object) (is_by w e)
 
   pub step_may : Allowed state (step_entry c d)
   step_may = (client_acts c s.client, IsNext-next_of state c None 0 d s.next.next)
 
   never_refused : d.word ≡ Finish → refusal_in d.answer ≡ None
-  never_refused e = ap (λ (v : Done). refusal_in v.answer) (sym (is_by Finish e))
+  never_refused e = ap (λ (v : CallStep). refusal_in v.answer) (sym (is_by Finish e))
 
   pub step_leaves : hands_none k d ≡ true → Leaves state (step_entry c d)
   step_leaves plain = leaves_by d.word (refusal_in d.answer) (object_with state d.object) plain never_refused
@@ -133,8 +133,8 @@ module _ (k : Kept) (c : ℕ) (d : Done) (s : IsStep k c d) where
   pub plain_entry : (w : Word) → d.word ≡ w → refusal_in d.answer ≡ None → found_at call w None ≡ None → fine_answer state call None 0 w ≡ answer.Ok → step_entry c d ≡ Step c w d.object None answer.Ok
   plain_entry w e fine finds says =
       let t = told state c call None w in
-      let found : d.found ≡ None = sym (ap (λ (v : Done). v.found) (is_by w e)) ∙ finds in
-      let by : d.answer ≡ step_answer state call None 0 w t.refusal = sym (ap (λ (v : Done). v.answer) (is_by w e)) in
+      let found : d.found ≡ None = sym (ap (λ (v : CallStep). v.found) (is_by w e)) ∙ finds in
+      let by : d.answer ≡ step_answer state call None 0 w t.refusal = sym (ap (λ (v : CallStep). v.answer) (is_by w e)) in
       let ok : d.answer ≡ answer.Ok = by ∙ answer_fine state call w t.refusal (sym (ap refusal_in by) ∙ fine) ∙ says in
       ap (λ v. Step c v d.object d.found d.answer) e
       ∙ ap (λ (v : Option QpState). Step c w d.object v d.answer) found

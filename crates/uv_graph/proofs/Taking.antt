@@ -27,11 +27,11 @@ use Rattle.uv_machine.specs.declared.call.InFlight.{InFlight}
 use Rattle.uv_machine.specs.declared.pool.Cell.{Cell}
 use Rattle.uv_machine.specs.declared.pool.Pool.{Pool}
 use Rattle.uv_machine.specs.declared.state.State.{State}
-use Rattle.uv_machine.specs.Objects.{has_id, in_file, is_made, is_live, is_doomed, is_husk, doomed_from, changed, on_object}
+use Rattle.uv_machine.specs.Objects.{has_id, in_file, is_made, is_live, is_doomed, is_husk, doomed_from, with_change, on_object}
 use Rattle.uv_machine.specs.Plans.{plan_of, next_word, moved_on, own_object}
 use Rattle.uv_machine.specs.States.{call_of, object_with, phase_of, is_quiet, is_tearing, has_doomed, has_users, can_go, newest_free}
 use Rattle.uv_machine.specs.Effects.{check, after_step}
-use Rattle.uv_machine.specs.Outside.{is_swept, is_object, may_kill_object}
+use Rattle.uv_machine.specs.Outside.{may_sweep, is_object, may_kill_object}
 use Rattle.uv_machine.specs.Histories.{IsActor, Allowed, after, state_of, IsLegal}
 use Rattle.uv_machine.specs.Reached.{IsIn, Reached}
 use Rattle.uv_machine.proofs.Members.{Passes-find, IsIn-map, IsIn-from_reverse}
@@ -45,7 +45,7 @@ use Rattle.uv_machine.proofs.Turns.{IsTurn-allowed}
 use Rattle.uv_machine.proofs.Reaching.{Reached-state_of}
 use Rattle.uv_graph.specs.declared.out.Out.{Out}
 use Rattle.uv_pool.specs.Deeds.{DeedFacts, TellsLives}
-use Rattle.uv_graph.specs.Deeds.{IsPlantedFor, out_for}
+use Rattle.uv_graph.specs.Deeds.{IsDeedPlantedFor, out_for}
 use Rattle.uv_graph.specs.Kept.{Kept, the_out, put_out, out_of, kill_of}
 use Rattle.uv_graph.specs.Lives.{identity_of, lives_in}
 use Rattle.uv_machine.specs.Logged.{Logged}
@@ -109,7 +109,7 @@ module _ {D : Type 0} (tell : D → DeedFacts) (log : Logged) (k : Kept) (pools 
     seat_now a b = ap (λ v. seat_of v a b) more ∙ seat_stays log.history e t.legal allowed leaves a b
 
     -- and is the deed that the object was planted by
-    pub deed_for : (d : D) → IsHeldDeed (tell d) (kind_place x.kind) x.index (seat_of log.history (kind_place x.kind) x.index) (identity_of x) → IsPlantedFor (tell d) x log'.history
+    pub deed_for : (d : D) → IsHeldDeed (tell d) (kind_place x.kind) x.index (seat_of log.history (kind_place x.kind) x.index) (identity_of x) → IsDeedPlantedFor (tell d) x log'.history
     deed_for d h =
         let cells : h.cell ≡ stands.cell = same_Some h.cell stands.cell (sym h.at.is ∙ stands.is) in
         record {
@@ -124,7 +124,7 @@ module _ {D : Type 0} (tell : D → DeedFacts) (log : Logged) (k : Kept) (pools 
 
     -- the objects that are doomed then are it and those that were
     doomed_out : (k' : Kept) → ((a b o : ℕ) → IsAway k a b o → IsAway k' a b o) → IsAway k' (kind_place x.kind) x.index x.id
-        → (b : Bool) (z y : Object) → IsIn z (state_of log.history).objects → has_id o z ≡ b → y ≡ (if b then changed ToDoomed z else z) → is_doomed y.phase ≡ true → IsAway k' (kind_place y.kind) y.index y.id
+        → (b : Bool) (z y : Object) → IsIn z (state_of log.history).objects → has_id o z ≡ b → y ≡ (if b then with_change ToDoomed z else z) → is_doomed y.phase ≡ true → IsAway k' (kind_place y.kind) y.index y.id
     doomed_out k' moves away true z y i is gives d =
         let P : Object → Type 0 = λ v. IsAway k' (kind_place v.kind) v.index v.id in
         let same : x ≡ z = same_Some x z (sym there ∙ ap (object_with (state_of log.history)) (sym (eqb-true z.id o is)) ∙ object_is (state_of log.history) z (Reached-state_of log.history t.legal) i) in
@@ -173,11 +173,11 @@ module _ {D : Type 0} (tell : D → DeedFacts) (log : Logged) (k : Kept) (pools 
 
 -- The object that goes out.
 
-doomed_for : (b : Bool) (x : Object) → IsFor (out_for x) (if b then changed ToDoomed x else x)
+doomed_for : (b : Bool) (x : Object) → IsFor (out_for x) (if b then with_change ToDoomed x else x)
 doomed_for true x = record { kind = refl; index = refl; generation = refl }
 doomed_for false x = record { kind = refl; index = refl; generation = refl }
 
-doomed_file : (b : Bool) (x : Object) → (if b then changed ToDoomed x else x).file ≡ x.file
+doomed_file : (b : Bool) (x : Object) → (if b then with_change ToDoomed x else x).file ≡ x.file
 doomed_file true x = refl
 doomed_file false x = refl
 
@@ -199,12 +199,12 @@ module _ (m : State) (o : ℕ) (x : Object) (there : object_with m o ≡ Some x)
   doomed_there = find-map (has_id o) (on_object o ToDoomed) m.objects (λ y k. ap (λ n. n == o) (on_object-id o ToDoomed y)) ∙ ap (option_map (on_object o ToDoomed)) there
 
   doomed_now : is_doomed (on_object o ToDoomed x).phase ≡ true
-  doomed_now = ap (λ b. is_doomed (if b then changed ToDoomed x else x).phase) (Passes-find (has_id o) x m.objects there).test ∙ live_doomed x.phase live
+  doomed_now = ap (λ b. is_doomed (if b then with_change ToDoomed x else x).phase) (Passes-find (has_id o) x m.objects there).test ∙ live_doomed x.phase live
 
   pub killed_out : (by : ℕ) → Allowed m (Kill o) → torn_by_object m by (object_with m o) ≡ true → HasKill (after m (Kill o)) by (out_for x)
   killed_out by allowed torn =
       let may : may_kill_object m o (Some x) ≡ true = ap (may_kill_object m o) (sym there) ∙ allowed in
-      let swept = (and_parts (is_swept m x.file) (not (has_doomed m x.file) && is_object o (newest_free m x.file)) may).0 in
+      let swept = (and_parts (may_sweep m x.file) (not (has_doomed m x.file) && is_object o (newest_free m x.file)) may).0 in
       let quiet = (and_parts (is_tearing (phase_of m x.file)) (is_quiet m x.file) swept).1 in
       let file = doomed_file (has_id o x) x in
       let by_it : is_torn_by by (phase_of m x.file) ≡ true = ap (torn_by_object m by) (sym there) ∙ torn in
@@ -360,7 +360,7 @@ live_object slot x e live = ap is_live_object (sym e) ∙ live
 pub killed_live : (m : State) (o : ℕ) (x : Object) → Reached m → object_with m o ≡ Some x → Allowed m (Kill o) → is_live x.phase ≡ true
 killed_live m o x r there allowed =
     let may : may_kill_object m o (Some x) ≡ true = ap (may_kill_object m o) (sym there) ∙ allowed in
-    let first = (and_parts (is_swept m x.file) (not (has_doomed m x.file) && is_object o (newest_free m x.file)) may).1 in
+    let first = (and_parts (may_sweep m x.file) (not (has_doomed m x.file) && is_object o (newest_free m x.file)) may).1 in
     let found = (and_parts (not (has_doomed m x.file)) (is_object o (newest_free m x.file)) first).1 in
     live_found m o x r there (newest_free m x.file) refl found
 

@@ -13,13 +13,13 @@ abbrev pub out_for : Object → Out
 out_for x = record { object = x.id; kind = x.kind; index = x.index; generation = x.generation }
 
 -- the deed of a new object's cell, which isn't planted; the object's life is the last of the cell's
-abbrev pub IsForNew : DeedFacts → Object → List Entry → Type 0
-IsForNew t x h = deeds.IsForNew t (identity_of x) x.index x.generation (lives_in h (kind_place x.kind) x.index)
+abbrev pub IsDeedForNew : DeedFacts → Object → List Entry → Type 0
+IsDeedForNew t x h = deeds.IsForNew t (identity_of x) x.index x.generation (lives_in h (kind_place x.kind) x.index)
 
 -- the deed of an object's cell, planted for it
-abbrev pub IsPlantedFor : DeedFacts → Object → List Entry → Type 0
-IsPlantedFor t x h = deeds.IsPlantedFor t (identity_of x) x.index x.generation (lives_in h (kind_place x.kind) x.index)
+abbrev pub IsDeedPlantedFor : DeedFacts → Object → List Entry → Type 0
+IsDeedPlantedFor t x h = deeds.IsPlantedFor t (identity_of x) x.index x.generation (lives_in h (kind_place x.kind) x.index)
 
 -- the deed that was handed out has been buried, and tells no life more
-abbrev pub IsBuried : DeedFacts → Out → List Entry → Type 0
-IsBuried t out h = deeds.IsBuried t out.kind out.index out.generation (lives_in h (kind_place out.kind) out.index)
+abbrev pub IsDeedBuried : DeedFacts → Out → List Entry → Type 0
+IsDeedBuried t out h = deeds.IsBuried t out.kind out.index out.generation (lives_in h (kind_place out.kind) out.index)

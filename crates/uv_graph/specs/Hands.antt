@@ -16,7 +16,7 @@ use Rattle.uv_machine.specs.Reached.{cell_in}
 use Rattle.uv_graph.specs.declared.out.Out.{Out}
 use Rattle.uv_graph.specs.Kept.{Kept, out_of}
 use Rattle.uv_pool.specs.Deeds.{DeedFacts, TellsLives}
-use Rattle.uv_graph.specs.Deeds.{out_for, IsForNew, IsPlantedFor, IsBuried}
+use Rattle.uv_graph.specs.Deeds.{out_for, IsDeedForNew, IsDeedPlantedFor, IsDeedBuried}
 use Rattle.uv_graph.specs.Lives.{lives_in}
 use Rattle.uv_graph.specs.Notes.{NotesOut, NotesKill}
 
@@ -26,7 +26,7 @@ pub record HandsNew (old new : Kept) (e : Entry) (client o : ℕ) (t : DeedFacts
   pub there : object_with (state_of new.history) o ≡ Some item
   pub made : is_made item.phase ≡ true
   pub notes : NotesOut old new e client (Some (out_for item))
-  pub deed : IsForNew t item new.history
+  pub deed : IsDeedForNew t item new.history
 
 -- a check of a live object: its deed went out to the client
 pub record HandsPlanted (old new : Kept) (e : Entry) (client o : ℕ) (t : DeedFacts) : Type 0 where
@@ -34,7 +34,7 @@ pub record HandsPlanted (old new : Kept) (e : Entry) (client o : ℕ) (t : DeedF
   pub there : object_with (state_of old.history) o ≡ Some item
   pub live : is_live item.phase ≡ true
   pub notes : NotesOut old new e client (Some (out_for item))
-  pub deed : IsPlantedFor t item new.history
+  pub deed : IsDeedPlantedFor t item new.history
 
 -- a kill: the object's deed went out to who tears its file down
 pub record HandsKilled (old new : Kept) (e : Entry) (actor o : ℕ) (t : DeedFacts) : Type 0 where
@@ -42,7 +42,7 @@ pub record HandsKilled (old new : Kept) (e : Entry) (actor o : ℕ) (t : DeedFac
   pub there : object_with (state_of old.history) o ≡ Some item
   pub live : is_live item.phase ≡ true
   pub notes : NotesKill old new e actor (Some (out_for item))
-  pub deed : IsPlantedFor t item new.history
+  pub deed : IsDeedPlantedFor t item new.history
 
 -- the deed that the client's call has out comes back, planted for the call's new object
 pub record ComesPlanted (k : Kept) (client : ℕ) (t : DeedFacts) : Type 0 where
@@ -51,14 +51,14 @@ pub record ComesPlanted (k : Kept) (client : ℕ) (t : DeedFacts) : Type 0 where
   pub item : Object
   pub there : object_with (state_of k.history) out.object ≡ Some item
   pub made : is_made item.phase ≡ true
-  pub deed : IsPlantedFor t item k.history
+  pub deed : IsDeedPlantedFor t item k.history
 
 -- the deed that this hand has out for the object comes back buried
 pub record ComesBuried (hand : Option Out) (o : ℕ) (t : DeedFacts) (h : List Entry) : Type 0 where
   pub out : Out
   pub is : hand ≡ Some out
   pub object : out.object ≡ o
-  pub deed : IsBuried t out h
+  pub deed : IsDeedBuried t out h
 
 -- the object is live
 abbrev pub is_live_object : Option Object → Bool

@@ -77,7 +77,7 @@ pub record IsAway (kept : Kept) (k i o : ℕ) : Type 0 where
   pub index : out.index ≡ i
   pub object : out.object ≡ o
 
-pub record IsIdle (slot : Option DeedFacts) (k i : ℕ) (s : Seat) : Type 0 where
+pub record IsUnheld (slot : Option DeedFacts) (k i : ℕ) (s : Seat) : Type 0 where
   pub deed : DeedFacts
   pub there : slot ≡ Some deed
   pub idle : IsIdleDeed deed k i s
@@ -88,7 +88,7 @@ IsHeldOrAway kept (Some deed) k i s holder = IsHeldDeed deed k i s holder
 
 -- the deed of a cell stands in its pool while nobody holds the cell, else among the planted ones unless it is out
 abbrev pub IsPlaced : Kept → Option DeedFacts → Option DeedFacts → ℕ → ℕ → Seat → Option Identity → Type 0
-IsPlaced kept pooled held k i s None = IsIdle pooled k i s × (held ≡ None)
+IsPlaced kept pooled held k i s None = IsUnheld pooled k i s × (held ≡ None)
 IsPlaced kept pooled held k i s (Some holder) = (pooled ≡ None) × IsHeldOrAway kept held k i s holder
 
 -- an object is the one that a deed is out for

@@ -2,7 +2,7 @@
 use Rattle.std.specs.Prelude.{ℕ, Bool, true, ◌≡◌, ◌||◌, Option, None, Some, is_some, if◌then◌else◌}
 use Rattle.uv_num.specs.declared.errno.Errno.{Errno}
 use Rattle.uv_machine.specs.declared.call.InFlight.{InFlight}
-use Rattle.uv_machine.specs.declared.entry.Done.{Done}
+use Rattle.uv_machine.specs.declared.entry.CallStep.{CallStep}
 use Rattle.uv_machine.specs.declared.entry.Word.{Word}
 use Rattle.uv_machine.specs.declared.object.Object.{Object}
 use Rattle.uv_machine.specs.Objects.{is_live, is_husk}
@@ -28,13 +28,13 @@ Rests None = ⊥
 Rests (Some x) = (is_live x.phase || is_husk x.phase) ≡ true
 
 -- a client's call is about to make this step, which touches no cell, and its deed, if it has one, isn't out
-pub record IsStep (k : Kept) (c : ℕ) (d : Done) : Type 0 where
+pub record IsStep (k : Kept) (c : ℕ) (d : CallStep) : Type 0 where
   pub client : IsClient c
   pub next : IsNextOf k c d
   pub none : out_of k c ≡ None
 
 -- the step ends its call, is refused, or goes by a word that leaves the deeds
-abbrev pub hands_none : Kept → Done → Bool
+abbrev pub hands_none : Kept → CallStep → Bool
 hands_none k d = is_exit d.word || (is_some (refusal_in d.answer) || goes_plain (object_with (state_of k.history) d.object) d.word)
 
 -- what such a step comes to
@@ -42,5 +42,5 @@ abbrev pub went : {D : Type 0} → Word → Option Errno → Progress D
 went w None = progress.Went w
 went w (Some e) = progress.Refused w e
 
-abbrev pub progress_of : {D : Type 0} → Done → Progress D
+abbrev pub progress_of : {D : Type 0} → CallStep → Progress D
 progress_of d = if is_exit d.word then progress.Ended d.answer else went d.word (refusal_in d.answer)

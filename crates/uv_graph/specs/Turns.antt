@@ -14,7 +14,7 @@ use Rattle.uv_num.specs.Request.{role_of}
 use Rattle.uv_machine.specs.declared.call.InFlight.{InFlight}
 use Rattle.uv_machine.specs.declared.entry.Answer.{Answer}
 use Rattle.uv_machine.specs.declared.entry.Answer.TheVariants as answer
-use Rattle.uv_machine.specs.declared.entry.Done.{Done}
+use Rattle.uv_machine.specs.declared.entry.CallStep.{CallStep}
 use Rattle.uv_machine.specs.declared.entry.Entry.{Entry}
 use Rattle.uv_machine.specs.declared.entry.Entry.TheVariants as entry
 use Rattle.uv_machine.specs.declared.entry.Word.{Word}
@@ -137,11 +137,11 @@ is_exit Free = false
 is_exit Exit = true
 
 -- the entry of a client's step
-abbrev pub step_entry : ℕ → Done → Entry
+abbrev pub step_entry : ℕ → CallStep → Entry
 step_entry c d = entry.Step c d.word d.object d.found d.answer
 
 -- the step that a client's call makes next: it isn't an act whose state is told from outside
-pub record IsNextOf (k : Kept) (c : ℕ) (d : Done) : Type 0 where
+pub record IsNextOf (k : Kept) (c : ℕ) (d : CallStep) : Type 0 where
   pub call : InFlight
   pub is : call_of (state_of k.history) c ≡ Some call
   pub alone : awaits call ≡ false
@@ -149,7 +149,7 @@ pub record IsNextOf (k : Kept) (c : ℕ) (d : Done) : Type 0 where
 
 -- it was made, and the call goes on
 pub record GoesBy (old new : Kept) (c : ℕ) (w : Word) : Type 0 where
-  pub done : Done
+  pub done : CallStep
   pub next : IsNextOf old c done
   pub word : done.word ≡ w
   pub fine : refusal_in done.answer ≡ None
@@ -158,7 +158,7 @@ pub record GoesBy (old new : Kept) (c : ℕ) (w : Word) : Type 0 where
 
 -- it was refused, and the call goes on to its end
 pub record IsRefusedBy (old new : Kept) (c : ℕ) (w : Word) (e : Errno) : Type 0 where
-  pub done : Done
+  pub done : CallStep
   pub next : IsNextOf old c done
   pub word : done.word ≡ w
   pub refused : refusal_in done.answer ≡ Some e
@@ -167,7 +167,7 @@ pub record IsRefusedBy (old new : Kept) (c : ℕ) (w : Word) (e : Errno) : Type 
 
 -- an object was made, and its cell's deed handed out
 pub record PlantsFor (old new : Kept) (c : ℕ) (t : DeedFacts) (o : ℕ) (kind : Kind) : Type 0 where
-  pub done : Done
+  pub done : CallStep
   pub next : IsNextOf old c done
   pub word : done.word ≡ Make
   pub object : done.object ≡ o
@@ -176,7 +176,7 @@ pub record PlantsFor (old new : Kept) (c : ℕ) (t : DeedFacts) (o : ℕ) (kind 
 
 -- a live object was taken out of use, and its deed handed out
 pub record RetiresFor (old new : Kept) (c : ℕ) (t : DeedFacts) (o : ℕ) (kind : Kind) : Type 0 where
-  pub done : Done
+  pub done : CallStep
   pub next : IsNextOf old c done
   pub word : done.word ≡ Check
   pub object : done.object ≡ o
@@ -197,7 +197,7 @@ pub record TouchesCell (old new : Kept) (c : ℕ) (kind : Kind) (index generatio
 
 -- the call ended
 pub record EndsWith (old new : Kept) (c : ℕ) (a : Answer) : Type 0 where
-  pub done : Done
+  pub done : CallStep
   pub next : IsNextOf old c done
   pub word : done.word ≡ Exit
   pub answer_is : done.answer ≡ a
@@ -237,7 +237,7 @@ pub record IsTouching (k : Kept) (c : ℕ) (found : Option QpState) : Type 0 whe
   pub none : out_of k c ≡ None
 
 pub record ActsBy (old new : Kept) (c : ℕ) (found : Option QpState) (a : Answer) : Type 0 where
-  pub done : Done
+  pub done : CallStep
   pub next : next_of (state_of old.history) c found 0 ≡ Some done
   pub answer_is : done.answer ≡ a
   pub notes : Notes old new (step_entry c done)
@@ -254,7 +254,7 @@ pub record IsFinishing (k : Kept) (c : ℕ) (t : DeedFacts) : Type 0 where
   pub comes : ComesBuried (out_of k c) object t k.history
 
 pub record FinishesBy (old new : Kept) (c kept : ℕ) : Type 0 where
-  pub done : Done
+  pub done : CallStep
   pub next : next_of (state_of old.history) c None kept ≡ Some done
   pub word : done.word ≡ Finish
   pub answer_is : done.answer ≡ answer.Kept kept

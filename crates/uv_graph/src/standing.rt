@@ -13,7 +13,7 @@ ghost use Rattle.uv_graph.specs.Turns.{is_husk_object};
 
 use crate::graph::Graph;
 use crate::out::Out;
-use uv_machine::Done;
+use uv_machine::CallStep;
 use uv_pool::Deed;
 
 impl<D: Deed> Graph<D> {
@@ -61,7 +61,7 @@ impl<D: Deed> Graph<D> {
     }
 
     /// What a call is about to check is live or a husk. It does nothing.
-    pub fn checks_what_rests(&self, _client: u32, _done: Done)
+    pub fn checks_what_rests(&self, _client: u32, _done: CallStep)
         requires step { IsStep self.now _client _done }
         requires word { _done.word ≡ word.Check }
         ensures { Rests (object_with (state_of self.now.history) _done.object) }
@@ -70,7 +70,7 @@ impl<D: Deed> Graph<D> {
     }
 
     /// What a call without a deed out is about to finish is a husk. It does nothing.
-    pub fn finishes_a_husk(&self, _client: u32, _done: Done)
+    pub fn finishes_a_husk(&self, _client: u32, _done: CallStep)
         requires step { IsStep self.now _client _done }
         requires word { _done.word ≡ word.Finish }
         ensures { is_husk_object (object_with (state_of self.now.history) _done.object) ≡ true }

@@ -6,7 +6,7 @@ use Rattle.uv_num.specs.Each.{Each}
 use Rattle.uv_guard.specs.declared.cell.Cell.{Cell}
 use Rattle.uv_guard.specs.declared.view.Held.{Held}
 use Rattle.uv_guard.specs.Cells.{tables}
-use Rattle.uv_guard.specs.Seated.{Placed, Seated, Deeded, seated, AreOwn, kept_by, kepts, add_kept, joined_with, cells_of}
+use Rattle.uv_guard.specs.Seated.{PlacedSeat, Seated, Deeded, seated, AreOwn, kept_by, kepts, add_kept, joined_with, cells_of}
 use Rattle.uv_guard.proofs.Lists.{at_index, get_map, same_some, map_length, map_set_same, cell_id}
 use Rattle.uv_guard.proofs.Many.{map_more, kepts_are, none_held, joined_last}
 
@@ -39,21 +39,21 @@ same_last (a ∷ xs) (b ∷ bs) x y e =
 
 module _ {T : Type 0} where
   -- before any place of a seat leaves
-  pub starts : (n : ℕ) (ps : List (Placed T)) (s : Seated T) (ts : List TableId) (ds : List (Deeded T)) → seated n ps ≡ s → AreOwn n ps → s.guard ≡ ts → Each (λ (h : Option (Held T)). h ≡ None) s.held
-      → (joined_with ds (map kept_by ps) ≡ joined_with ds (kepts s)) × Each (λ (p : Placed T). p.held ≡ None) ps × ((rest : List TableId) × (ts ≡ map (λ (p : Placed T). p.cell) ps ++ rest))
+  pub starts : (n : ℕ) (ps : List (PlacedSeat T)) (s : Seated T) (ts : List TableId) (ds : List (Deeded T)) → seated n ps ≡ s → AreOwn n ps → s.guard ≡ ts → Each (λ (h : Option (Held T)). h ≡ None) s.held
+      → (joined_with ds (map kept_by ps) ≡ joined_with ds (kepts s)) × Each (λ (p : PlacedSeat T). p.held ≡ None) ps × ((rest : List TableId) × (ts ≡ map (λ (p : PlacedSeat T). p.cell) ps ++ rest))
   starts n ps s ts ds v own at out = (
     ap (joined_with ds) (sym (kepts_are n ps own) ∙ ap kepts v),
     none_held n ps (subst (λ (z : Seated T). Each (λ (h : Option (Held T)). h ≡ None) z.held) (sym v) out),
-    ([], sym at ∙ (ap (λ (z : Seated T). z.guard) (sym v) ∙ sym (append-nil (map (λ (p : Placed T). p.cell) ps)))),
+    ([], sym at ∙ (ap (λ (z : Seated T). z.guard) (sym v) ∙ sym (append-nil (map (λ (p : PlacedSeat T). p.cell) ps)))),
   )
 
-  module _ {I : Type 0} (cells : List (Cell T I)) (deeds : List (Deeded T)) (places front : List (Placed T)) (p : Placed T) (i : ℕ) (split : places ≡ front ++ p ∷ []) (len : i ≡ length front) (same : cells_of deeds ≡ tables cells) (rest : List TableId) (over : tables cells ≡ map (λ (p : Placed T). p.cell) places ++ rest) where
-    abbrev cell_of : Placed T → TableId
+  module _ {I : Type 0} (cells : List (Cell T I)) (deeds : List (Deeded T)) (places front : List (PlacedSeat T)) (p : PlacedSeat T) (i : ℕ) (split : places ≡ front ++ p ∷ []) (len : i ≡ length front) (same : cells_of deeds ≡ tables cells) (rest : List TableId) (over : tables cells ≡ map (λ (p : PlacedSeat T). p.cell) places ++ rest) where
+    abbrev cell_of : PlacedSeat T → TableId
     cell_of q = q.cell
 
     -- the cells behind this one are done with
-    pub next_over : tables cells ≡ map (λ (q : Placed T). q.cell) front ++ p.cell ∷ rest
-    next_over = over ∙ (ap (λ (l : List (Placed T)). map cell_of l ++ rest) split ∙ (ap (λ (l : List TableId). l ++ rest) (map_more cell_of front p) ∙ append_assoc (map cell_of front) (p.cell ∷ []) rest))
+    pub next_over : tables cells ≡ map (λ (q : PlacedSeat T). q.cell) front ++ p.cell ∷ rest
+    next_over = over ∙ (ap (λ (l : List (PlacedSeat T)). map cell_of l ++ rest) split ∙ (ap (λ (l : List TableId). l ++ rest) (map_more cell_of front p) ∙ append_assoc (map cell_of front) (p.cell ∷ []) rest))
 
     here : slice_get (tables cells) i ≡ Some p.cell
     here = ap (λ (l : List TableId). slice_get l i) next_over ∙ (ap (λ (k : ℕ). slice_get (map cell_of front ++ p.cell ∷ rest) k) (len ∙ sym (map_length cell_of front)) ∙ get_behind (map cell_of front) rest p.cell)

@@ -7,7 +7,7 @@ use Rattle.uv_guard.specs.declared.cell.Cell.{Cell}
 use Rattle.uv_guard.specs.declared.view.Held.{Held}
 use Rattle.uv_guard.specs.Cells.{tables}
 use Rattle.uv_guard.specs.Steps.{taking}
-use Rattle.uv_guard.specs.Seated.{Placed, Seated, Deeded, more_at, seated, outside, given_back, witnessed}
+use Rattle.uv_guard.specs.Seated.{PlacedSeat, Seated, Deeded, more_at, seated, outside, given_back, witnessed}
 
 module _ {X : Type 0} where
   pub at_index : (xs : List X) (i : ℕ) (r : X) → i < length xs → r ≡ get_or xs i r → slice_get xs i ≡ Some r
@@ -64,65 +64,65 @@ module _ {X Y : Type 0} (f : X → Y) where
 
 module _ {T : Type 0} where
   -- there are as many places as cells, and each is at its cell
-  pub places_length : {I : Type 0} (n : ℕ) (ps : List (Placed T)) (cells : List (Cell T I)) (s : Seated T) (guard : List TableId) → seated n ps ≡ s → s.guard ≡ guard → tables cells ≡ guard → length ps ≡ length cells
+  pub places_length : {I : Type 0} (n : ℕ) (ps : List (PlacedSeat T)) (cells : List (Cell T I)) (s : Seated T) (guard : List TableId) → seated n ps ≡ s → s.guard ≡ guard → tables cells ≡ guard → length ps ≡ length cells
   places_length {I = I} n ps cells s guard v e w =
-      sym (map_length (λ (p : Placed T). p.cell) ps) ∙ (ap length (ap (λ (z : Seated T). z.guard) v ∙ (e ∙ sym w)) ∙ map_length (λ (c : Cell T I). c.table.shared.table_id) cells)
+      sym (map_length (λ (p : PlacedSeat T). p.cell) ps) ∙ (ap length (ap (λ (z : Seated T). z.guard) v ∙ (e ∙ sym w)) ∙ map_length (λ (c : Cell T I). c.table.shared.table_id) cells)
 
-  pub same_cell : {I : Type 0} (n : ℕ) (ps : List (Placed T)) (cells : List (Cell T I)) (s : Seated T) (guard : List TableId) (i : ℕ) (p : Placed T) (c : Cell T I) → seated n ps ≡ s → s.guard ≡ guard → tables cells ≡ guard
+  pub same_cell : {I : Type 0} (n : ℕ) (ps : List (PlacedSeat T)) (cells : List (Cell T I)) (s : Seated T) (guard : List TableId) (i : ℕ) (p : PlacedSeat T) (c : Cell T I) → seated n ps ≡ s → s.guard ≡ guard → tables cells ≡ guard
       → slice_get ps i ≡ Some p → slice_get cells i ≡ Some c → p.cell ≡ c.table.shared.table_id
   same_cell {I = I} n ps cells s guard i p c v e w at at' =
-      same_some p.cell c.table.shared.table_id (sym (get_map (λ (z : Placed T). z.cell) ps i p at) ∙ (ap (λ (l : List TableId). slice_get l i) (ap (λ (z : Seated T). z.guard) v ∙ (e ∙ sym w)) ∙ get_map (λ (z : Cell T I). z.table.shared.table_id) cells i c at'))
+      same_some p.cell c.table.shared.table_id (sym (get_map (λ (z : PlacedSeat T). z.cell) ps i p at) ∙ (ap (λ (l : List TableId). slice_get l i) (ap (λ (z : Seated T). z.guard) v ∙ (e ∙ sym w)) ∙ get_map (λ (z : Cell T I). z.table.shared.table_id) cells i c at'))
 
-  pub same_held : (n : ℕ) (ps : List (Placed T)) (s : Seated T) (i : ℕ) (p : Placed T) (h : Option (Held T)) → seated n ps ≡ s → slice_get ps i ≡ Some p → slice_get s.held i ≡ Some h → p.held ≡ h
-  same_held n ps s i p h v at e = same_some p.held h (sym (get_map (λ (z : Placed T). z.held) ps i p at) ∙ (ap (λ (z : Seated T). slice_get z.held i) v ∙ e))
+  pub same_held : (n : ℕ) (ps : List (PlacedSeat T)) (s : Seated T) (i : ℕ) (p : PlacedSeat T) (h : Option (Held T)) → seated n ps ≡ s → slice_get ps i ≡ Some p → slice_get s.held i ≡ Some h → p.held ≡ h
+  same_held n ps s i p h v at e = same_some p.held h (sym (get_map (λ (z : PlacedSeat T). z.held) ps i p at) ∙ (ap (λ (z : Seated T). slice_get z.held i) v ∙ e))
 
   -- the seat, after a change at one place that stays at its cell
-  pub put_place : (n : ℕ) (ps : List (Placed T)) (i : ℕ) (p q : Placed T) → slice_get ps i ≡ Some p → q.cell ≡ p.cell
+  pub put_place : (n : ℕ) (ps : List (PlacedSeat T)) (i : ℕ) (p q : PlacedSeat T) → slice_get ps i ≡ Some p → q.cell ≡ p.cell
       → seated n (set ps i q) ≡ record (seated n ps) { held = set (seated n ps).held i q.held; took = set (seated n ps).took i q.took; met = set (seated n ps).met i q.met }
   put_place n ps i p q at e k = record {
     number = n;
-    guard = map_set_same (λ (z : Placed T). z.cell) ps i p q at e k;
-    held = map_set (λ (z : Placed T). z.held) ps i q k;
-    took = map_set (λ (z : Placed T). z.took) ps i q k;
-    met = map_set (λ (z : Placed T). z.met) ps i q k;
+    guard = map_set_same (λ (z : PlacedSeat T). z.cell) ps i p q at e k;
+    held = map_set (λ (z : PlacedSeat T). z.held) ps i q k;
+    took = map_set (λ (z : PlacedSeat T). z.took) ps i q k;
+    met = map_set (λ (z : PlacedSeat T). z.met) ps i q k;
   }
 
   -- nothing changes
-  pub put_same : (n : ℕ) (ps : List (Placed T)) (i : ℕ) (p q : Placed T) → slice_get ps i ≡ Some p → q ≡ p → seated n (set ps i q) ≡ seated n ps
+  pub put_same : (n : ℕ) (ps : List (PlacedSeat T)) (i : ℕ) (p q : PlacedSeat T) → slice_get ps i ≡ Some p → q ≡ p → seated n (set ps i q) ≡ seated n ps
   put_same n ps i p q at e = ap (λ z. seated n (set ps i z)) e ∙ ap (seated n) (set_same ps i p at)
 
-  pub put_held : (n : ℕ) (ps : List (Placed T)) (i : ℕ) (p : Placed T) (h : Option (Held T)) → slice_get ps i ≡ Some p → seated n (set ps i (record p { held = h })) ≡ record (seated n ps) { held = set (seated n ps).held i h }
+  pub put_held : (n : ℕ) (ps : List (PlacedSeat T)) (i : ℕ) (p : PlacedSeat T) (h : Option (Held T)) → slice_get ps i ≡ Some p → seated n (set ps i (record p { held = h })) ≡ record (seated n ps) { held = set (seated n ps).held i h }
   put_held n ps i p h at =
       put_place n ps i p (record p { held = h }) at refl
       ∙ (λ k. record (seated n ps) {
         held = set (seated n ps).held i h;
-        took = set_same (seated n ps).took i p.took (get_map (λ (z : Placed T). z.took) ps i p at) k;
-        met = set_same (seated n ps).met i p.met (get_map (λ (z : Placed T). z.met) ps i p at) k;
+        took = set_same (seated n ps).took i p.took (get_map (λ (z : PlacedSeat T). z.took) ps i p at) k;
+        met = set_same (seated n ps).met i p.met (get_map (λ (z : PlacedSeat T). z.met) ps i p at) k;
       })
 
-  pub put_left : (n : ℕ) (ps : List (Placed T)) (i : ℕ) (p q : Placed T) (h : Held T) (y : T) → slice_get ps i ≡ Some p → p.held ≡ Some h → q ≡ record p { held = None; took = p.took ++ taking h y ∷ [] } → seated n (set ps i q) ≡ outside (seated n ps) i y
+  pub put_left : (n : ℕ) (ps : List (PlacedSeat T)) (i : ℕ) (p q : PlacedSeat T) (h : Held T) (y : T) → slice_get ps i ≡ Some p → p.held ≡ Some h → q ≡ record p { held = None; took = p.took ++ taking h y ∷ [] } → seated n (set ps i q) ≡ outside (seated n ps) i y
   put_left n ps i p q h y at has is =
       ap (λ z. seated n (set ps i z)) is
       ∙ (put_place n ps i p (record p { held = None; took = p.took ++ taking h y ∷ [] }) at refl
       ∙ ((λ k. record (seated n ps) {
         held = set (seated n ps).held i None;
-        took = sym (more_is_set (seated n ps).took i p.took (taking h y) (get_map (λ (z : Placed T). z.took) ps i p at)) k;
-        met = set_same (seated n ps).met i p.met (get_map (λ (z : Placed T). z.met) ps i p at) k;
+        took = sym (more_is_set (seated n ps).took i p.took (taking h y) (get_map (λ (z : PlacedSeat T). z.took) ps i p at)) k;
+        met = set_same (seated n ps).met i p.met (get_map (λ (z : PlacedSeat T). z.met) ps i p at) k;
       })
-      ∙ ap (given_back (seated n ps) i y) (sym (get_map (λ (z : Placed T). z.held) ps i p at ∙ ap (λ z. Some z) has))))
+      ∙ ap (given_back (seated n ps) i y) (sym (get_map (λ (z : PlacedSeat T). z.held) ps i p at ∙ ap (λ z. Some z) has))))
 
-  pub put_met : (n : ℕ) (ps : List (Placed T)) (i : ℕ) (p q : Placed T) (d : Deeded T) → slice_get ps i ≡ Some p → q ≡ record p { met = record { plants = d.plants; lives = d.lives } } → seated n (set ps i q) ≡ witnessed (seated n ps) i d
+  pub put_met : (n : ℕ) (ps : List (PlacedSeat T)) (i : ℕ) (p q : PlacedSeat T) (d : Deeded T) → slice_get ps i ≡ Some p → q ≡ record p { met = record { plants = d.plants; lives = d.lives } } → seated n (set ps i q) ≡ witnessed (seated n ps) i d
   put_met n ps i p q d at is =
       ap (λ z. seated n (set ps i z)) is
       ∙ (put_place n ps i p (record p { met = record { plants = d.plants; lives = d.lives } }) at refl
       ∙ (λ k. record (seated n ps) {
-        held = set_same (seated n ps).held i p.held (get_map (λ (z : Placed T). z.held) ps i p at) k;
-        took = set_same (seated n ps).took i p.took (get_map (λ (z : Placed T). z.took) ps i p at) k;
+        held = set_same (seated n ps).held i p.held (get_map (λ (z : PlacedSeat T). z.held) ps i p at) k;
+        took = set_same (seated n ps).took i p.took (get_map (λ (z : PlacedSeat T). z.took) ps i p at) k;
         met = set (seated n ps).met i record { plants = d.plants; lives = d.lives };
       }))
 
   -- a place of the seat, and the cell beside it
-  pub at_place : {I : Type 0} (n : ℕ) (ps : List (Placed T)) (cells : List (Cell T I)) (s : Seated T) (guard : List TableId) (i : ℕ) (p : Placed T) → seated n ps ≡ s → s.guard ≡ guard → tables cells ≡ guard → length (tables cells) ≡ 64 → i < 64 → p ≡ get_or ps i p → slice_get ps i ≡ Some p
+  pub at_place : {I : Type 0} (n : ℕ) (ps : List (PlacedSeat T)) (cells : List (Cell T I)) (s : Seated T) (guard : List TableId) (i : ℕ) (p : PlacedSeat T) → seated n ps ≡ s → s.guard ≡ guard → tables cells ≡ guard → length (tables cells) ≡ 64 → i < 64 → p ≡ get_or ps i p → slice_get ps i ≡ Some p
   at_place {I = I} n ps cells s guard i p v e w len lt at = let l = places_length n ps cells s guard v e w in let m = map_length (λ (c : Cell T I). c.table.shared.table_id) cells in at_index ps i p (omega arith) at
 
   pub at_cell : {I : Type 0} (cells : List (Cell T I)) (i : ℕ) (c : Cell T I) → length (tables cells) ≡ 64 → i < 64 → c ≡ get_or cells i c → slice_get cells i ≡ Some c

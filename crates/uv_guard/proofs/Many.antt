@@ -5,7 +5,7 @@ use Rattle.atomic_table.specs.Seated.{TableId}
 use Rattle.uv_num.specs.Each.{Each}
 use Rattle.uv_guard.specs.declared.view.Held.{Held}
 use Rattle.uv_guard.specs.declared.view.Kept.{Kept}
-use Rattle.uv_guard.specs.Seated.{Placed, Seated, Deeded, seated, AreOwn, fresh_place, fresh_seat, fresh_seats, fresh_deed, fresh_deeds, indexed, met_none, kept_by, kepts, add_kept, joined_with, all_joined}
+use Rattle.uv_guard.specs.Seated.{PlacedSeat, Seated, Deeded, seated, AreOwn, fresh_place, fresh_seat, fresh_seats, fresh_deed, fresh_deeds, indexed, met_none, kept_by, kepts, add_kept, joined_with, all_joined}
 use Rattle.uv_guard.specs.declared.cell.Cell.{Cell}
 use Rattle.uv_guard.specs.Cells.{tables}
 use Rattle.uv_guard.proofs.Lists.{at_index, same_some, map_length}
@@ -104,13 +104,13 @@ module _ {T : Type 0} where
   pub fresh_seated : (n : ℕ) (ts : List TableId) → seated n (map (fresh_place {T = T} n) ts) ≡ fresh_seat ts n
   fresh_seated n ts k = record {
     number = n;
-    guard = (map_map (λ (p : Placed T). p.cell) (fresh_place n) ts ∙ map_self ts) k;
-    held = (map_map (λ (p : Placed T). p.held) (fresh_place n) ts ∙ map_replicate (λ (t : TableId). None) None (λ t. refl) ts) k;
-    took = (map_map (λ (p : Placed T). p.took) (fresh_place n) ts ∙ map_replicate (λ (t : TableId). []) [] (λ t. refl) ts) k;
-    met = (map_map (λ (p : Placed T). p.met) (fresh_place n) ts ∙ map_replicate (λ (t : TableId). met_none) met_none (λ t. refl) ts) k;
+    guard = (map_map (λ (p : PlacedSeat T). p.cell) (fresh_place n) ts ∙ map_self ts) k;
+    held = (map_map (λ (p : PlacedSeat T). p.held) (fresh_place n) ts ∙ map_replicate (λ (t : TableId). None) None (λ t. refl) ts) k;
+    took = (map_map (λ (p : PlacedSeat T). p.took) (fresh_place n) ts ∙ map_replicate (λ (t : TableId). []) [] (λ t. refl) ts) k;
+    met = (map_map (λ (p : PlacedSeat T). p.met) (fresh_place n) ts ∙ map_replicate (λ (t : TableId). met_none) met_none (λ t. refl) ts) k;
   }
 
-  pub fresh_own : (n : ℕ) (ts : List TableId) (ps : List (Placed T)) → ps ≡ map (fresh_place n) ts → AreOwn n ps
+  pub fresh_own : (n : ℕ) (ts : List TableId) (ps : List (PlacedSeat T)) → ps ≡ map (fresh_place n) ts → AreOwn n ps
   fresh_own n ts ps e = subst (AreOwn n) (sym e) (go ts)
     where
       go : (us : List TableId) → AreOwn n (map (fresh_place {T = T} n) us)
@@ -118,11 +118,11 @@ module _ {T : Type 0} where
       go (u ∷ us) = (refl, go us)
 
   -- what a seat of these places knows
-  pub kepts_are : (n : ℕ) (ps : List (Placed T)) → AreOwn n ps → kepts (seated n ps) ≡ map kept_by ps
+  pub kepts_are : (n : ℕ) (ps : List (PlacedSeat T)) → AreOwn n ps → kepts (seated n ps) ≡ map kept_by ps
   kepts_are n [] o = refl
   kepts_are n (p ∷ ps) o = λ k. record { number = sym o.0 k; took = p.took; plants = p.met.plants; lives = p.met.lives } ∷ kepts_are n ps o.1 k
 
-  pub none_held : (n : ℕ) (ps : List (Placed T)) → Each (λ (h : Option (Held T)). h ≡ None) (seated n ps).held → Each (λ (p : Placed T). p.held ≡ None) ps
+  pub none_held : (n : ℕ) (ps : List (PlacedSeat T)) → Each (λ (h : Option (Held T)). h ≡ None) (seated n ps).held → Each (λ (p : PlacedSeat T). p.held ≡ None) ps
   none_held n [] e = tt
   none_held n (p ∷ ps) e = (e.0, none_held n ps e.1)
 
@@ -170,7 +170,7 @@ module _ {T : Type 0} where
       ∙ (half_more i (fresh_deed (suc n)) (fresh_deed n) (indexed 0 ts) (0 + i, t) (indexed_at 0 i ts t at)
       ∙ ap (λ (k : ℕ). half_map k (fresh_deed {T = T} (suc n)) (fresh_deed n) (indexed 0 ts)) (let q : suc i ≡ i + 1 = omega arith in q)))
 
-  pub places_more : (n i : ℕ) (ts : List TableId) (ps ps' : List (Placed T)) (p : Placed T) (t : TableId) → slice_get ts i ≡ Some t → ps ≡ map (fresh_place n) (take i ts) → p ≡ fresh_place n t → ps' ≡ ps ++ p ∷ [] → ps' ≡ map (fresh_place n) (take (i + 1) ts)
+  pub places_more : (n i : ℕ) (ts : List TableId) (ps ps' : List (PlacedSeat T)) (p : PlacedSeat T) (t : TableId) → slice_get ts i ≡ Some t → ps ≡ map (fresh_place n) (take i ts) → p ≡ fresh_place n t → ps' ≡ ps ++ p ∷ [] → ps' ≡ map (fresh_place n) (take (i + 1) ts)
   places_more n i ts ps ps' p t at e is e' =
       e' ∙ ((λ k. e k ++ is k ∷ [])
       ∙ (sym (map_more (fresh_place n) (take i ts) t)

@@ -3,11 +3,11 @@ use Rattle.std.specs.Prelude.{◌≡◌, ◌≢◌, ℕ, ◌+◌, ◌*◌, ◌/�
 use Rattle.uv_guard.specs.declared.cell.Entering.{Entering}
 use Rattle.uv_guard.specs.declared.cell.Entering.TheVariants.{Entered, Dead, Taken}
 use Rattle.uv_guard.specs.Lives.{IsAfter, IsOf}
-use Rattle.uv_guard.specs.Seated.{Placed, Seated, inside, took_at, met_at}
+use Rattle.uv_guard.specs.Seated.{PlacedSeat, Seated, inside, took_at, met_at}
 
 module _ {T : Type 0} (goes_on : T → T → Type 0) where
   -- at one cell
-  abbrev pub PlaceEnters : ℕ → Placed T → Entering T → Placed T → Type 0
+  abbrev pub PlaceEnters : ℕ → PlacedSeat T → Entering T → PlacedSeat T → Type 0
   PlaceEnters g p (Entered x) p' = (k : ℕ) × (p' ≡ record p { held = Some record { number = k; generation = g; value = x } }) × IsAfter goes_on g p.took x × IsOf goes_on g p.met.plants x
   PlaceEnters g p (Dead w) p' = (p' ≡ p) × (w / 4294967296 ≢ 4 * g + 1)
   PlaceEnters g p (Taken w) p' = p' ≡ p

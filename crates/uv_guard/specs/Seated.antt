@@ -21,7 +21,7 @@ pub record Met (T : Type 0) : Type 0 where
   pub lives : List (Life T)
 
 -- a seat at one cell
-pub record Placed (T : Type 0) : Type 0 where
+pub record PlacedSeat (T : Type 0) : Type 0 where
   pub cell : TableId
   pub number : ℕ
   pub held : Option (Held T)
@@ -63,19 +63,19 @@ module _ {T : Type 0} where
   abbrev pub met_of : View T → Met T
   met_of v = record { plants = v.plants; lives = v.lives }
 
-  abbrev pub placed : Seat (Option T) (View T) → Placed T
+  abbrev pub placed : Seat (Option T) (View T) → PlacedSeat T
   placed c = record { cell = c.table_id; number = c.me.0.number; held = c.me.0.entered; took = c.me.0.took; met = met_of c.me.0 }
 
   -- a seat out of the cell, or in it
   abbrev pub IsPlaced : ℕ → Sat T → Type 0
   IsPlaced n m = IsOut n m ⊎ ((h : Held T) × IsIn n h m)
 
-  abbrev pub seated : ℕ → List (Placed T) → Seated T
-  seated n ps = record { number = n; guard = map (λ (p : Placed T). p.cell) ps; held = map (λ (p : Placed T). p.held) ps; took = map (λ (p : Placed T). p.took) ps; met = map (λ (p : Placed T). p.met) ps }
+  abbrev pub seated : ℕ → List (PlacedSeat T) → Seated T
+  seated n ps = record { number = n; guard = map (λ (p : PlacedSeat T). p.cell) ps; held = map (λ (p : PlacedSeat T). p.held) ps; took = map (λ (p : PlacedSeat T). p.took) ps; met = map (λ (p : PlacedSeat T). p.met) ps }
 
   -- the places of one seat
-  abbrev pub AreOwn : ℕ → List (Placed T) → Type 0
-  AreOwn n ps = Each (λ (p : Placed T). p.number ≡ n) ps
+  abbrev pub AreOwn : ℕ → List (PlacedSeat T) → Type 0
+  AreOwn n ps = Each (λ (p : PlacedSeat T). p.number ≡ n) ps
 
   abbrev pub deeded : ℕ → Seat (Option T) (View T) → Deeded T
   deeded i c = record { cell = c.table_id; index = i; seats = c.me.0.given; generation = c.me.0.generation; stage = c.me.0.stage; plants = c.me.0.plants; lives = c.me.0.lives; kept = c.me.0.kept }
@@ -153,7 +153,7 @@ module _ {T : Type 0} where
   buried_deed d x = buried_at d.stage d x
 
   -- seats and deeds as they are made
-  abbrev pub fresh_place : ℕ → TableId → Placed T
+  abbrev pub fresh_place : ℕ → TableId → PlacedSeat T
   fresh_place n t = record { cell = t; number = n; held = None; took = []; met = met_none }
 
   abbrev pub fresh_seat : List TableId → ℕ → Seated T
@@ -176,7 +176,7 @@ module _ {T : Type 0} where
   abbrev pub fresh_deeds : ℕ → List TableId → List (Deeded T)
   fresh_deeds seats guard = map (fresh_deed seats) (indexed 0 guard)
 
-  abbrev pub kept_by : Placed T → Kept T
+  abbrev pub kept_by : PlacedSeat T → Kept T
   kept_by p = record { number = p.number; took = p.took; plants = p.met.plants; lives = p.met.lives }
 
   -- what a seat knows of each cell

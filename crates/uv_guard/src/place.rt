@@ -19,9 +19,9 @@ pub struct Place<T: Celled> {
 }
 
 impl<T: Celled> Model for Place<T> {
-    ghost use Rattle.uv_guard.specs.Seated.{Placed, placed, IsPlaced};
+    ghost use Rattle.uv_guard.specs.Seated.{PlacedSeat, placed, IsPlaced};
 
-    ghost Value = { Placed T };
+    ghost Value = { PlacedSeat T };
 
     ghost view = { λ p. placed p.chair };
 

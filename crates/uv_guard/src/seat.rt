@@ -1,7 +1,7 @@
 //! A seat of a guard, seen as a plain value.
 
 ghost use Rattle.std.specs.Prelude.{◌≡◌, ◌++◌, ◌∷◌, [], length, map, option_to_list};
-ghost use Rattle.uv_guard.specs.Seated.{Placed, seated, AreOwn};
+ghost use Rattle.uv_guard.specs.Seated.{PlacedSeat, seated, AreOwn};
 
 use crate::celled::Celled;
 use crate::place::Place;

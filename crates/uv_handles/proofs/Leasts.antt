@@ -6,7 +6,7 @@ use Rattle.std.specs.Prelude.{if◌then◌else◌}
 use Rattle.std.specs.List.{position_from}
 use Rattle.uv_handles.specs.declared.slot.Slot.{Slot}
 use Rattle.uv_handles.specs.declared.slot.Slot.TheVariants.{Free}
-use Rattle.uv_handles.specs.Table.{is_free, is_taken_in, least_free}
+use Rattle.uv_handles.specs.Table.{is_free, is_taken_in, least_free_in}
 
 -- a number is one of the table's and is free, and each number below it is taken
 pub record IsLeastFree (table : List Slot) (n : ℕ) : Type 0 where
@@ -15,7 +15,7 @@ pub record IsLeastFree (table : List Slot) (n : ℕ) : Type 0 where
   pub below : (k : ℕ) → k < n → is_taken_in table k ≡ true
 
 -- the least free number, where there is one
-pub least_free_some : (table : List Slot) (n : ℕ) → least_free table ≡ Some n → IsLeastFree table n
+pub least_free_some : (table : List Slot) (n : ℕ) → least_free_in table ≡ Some n → IsLeastFree table n
 least_free_some table n found =
     let fact = position-Some is_free table n Free found in
     record { within = fact.0; free = ap not fact.1; below = λ k below. ap not (fact.2 k below) }
@@ -33,7 +33,7 @@ none_from (slot ∷ table) n none (suc k) within =
     none_from table (n + 1) (passed (is_free slot) n (position_from is_free (n + 1) table) none).1 k (omega arith)
 
 -- where there is none, every number of the table is taken
-pub least_free_none : (table : List Slot) → least_free table ≡ None → (k : ℕ) → k < length table → is_taken_in table k ≡ true
+pub least_free_none : (table : List Slot) → least_free_in table ≡ None → (k : ℕ) → k < length table → is_taken_in table k ≡ true
 least_free_none table none = none_from table 0 (sym (position_from-zero is_free table) ∙ none)
 
 module _ (taken : ℕ → Bool) (least : ℕ → ℕ → Option ℕ) (none : (n : ℕ) → least n zero ≡ None) (next : (n k : ℕ) → least n (suc k) ≡ (if taken n then least (n + 1) k else Some n)) where
@@ -49,6 +49,6 @@ module _ (taken : ℕ → Bool) (least : ℕ → ℕ → Option ℕ) (none : (n 
 
   -- a search that goes up from 0, past each number that a test tells to be taken, finds the table's least free number where
   -- the table says the same of each of its numbers
-  pub least_free_search : (table : List Slot) → ((i : ℕ) → i < length table → is_taken_in table i ≡ taken i) → least 0 (length table) ≡ least_free table
+  pub least_free_search : (table : List Slot) → ((i : ℕ) → i < length table → is_taken_in table i ≡ taken i) → least 0 (length table) ≡ least_free_in table
   least_free_search table same =
       from table 0 (λ i within. same i within ∙ ap taken (sym (zero-add i))) ∙ sym (position_from-zero is_free table)

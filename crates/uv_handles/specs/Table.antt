@@ -47,8 +47,8 @@ abbrev pub is_published_in : List Slot → ℕ → Bool
 is_published_in table n = is_some (published_in table n)
 
 -- the least number that isn't taken
-abbrev pub least_free : List Slot → Option ℕ
-least_free table = position is_free table
+abbrev pub least_free_in : List Slot → Option ℕ
+least_free_in table = position is_free table
 
 -- What a table becomes.
 

@@ -2,7 +2,7 @@
 
 ghost use Rattle.std.specs.Prelude.{◌≡◌, ◌<◌, length, slice_set, IfOk, IfSome, IsTrue};
 ghost use Rattle.uv_num.specs.declared.limits.TheConstants.{HANDLES};
-ghost use Rattle.uv_handles.specs.Table.{slot_in, is_reserved_in, is_published_in, published_in, least_free, empty_table, reserved_if, published_at, freed_at};
+ghost use Rattle.uv_handles.specs.Table.{slot_in, is_reserved_in, is_published_in, published_in, least_free_in, empty_table, reserved_if, published_at, freed_at};
 
 use crate::Slot;
 use std::alloc::{AllocError, Global};
@@ -45,8 +45,8 @@ impl Handles {
     /// Sets the least number aside that isn't taken (`rdma_core.c`, `idr_add_uobj`). None exactly where all `HANDLES`
     /// numbers are taken, and then nothing changes.
     pub fn reserve(&mut self) -> Option<u32>
-        ensures number { result ≡ least_free self.old }
-        ensures table { self.new ≡ reserved_if (least_free self.old) self.old }
+        ensures number { result ≡ least_free_in self.old }
+        ensures table { self.new ≡ reserved_if (least_free_in self.old) self.old }
         ensures aside { IfSome result (λ n. IsTrue (is_reserved_in self.new n)) }
         ensures size { length self.old ≡ HANDLES }
     {
@@ -109,7 +109,7 @@ impl Handles {
     }
 
     fn least_free(&self) -> Option<u32>
-        ensures number { result ≡ least_free self.now }
+        ensures number { result ≡ least_free_in self.now }
         ensures within { IfSome result (λ n. n < length self.now) }
         ensures size { length self.now ≡ HANDLES }
     {
@@ -121,7 +121,7 @@ impl Handles {
 }
 
 fn first_free(slots: &[Slot]) -> Option<usize>
-    ensures number { result ≡ least_free slots.now }
+    ensures number { result ≡ least_free_in slots.now }
     ensures within { IfSome result (λ n. n < length slots.now) }
 {
     slots.iter().position(|slot| slot.is_free())

@@ -23,6 +23,6 @@ pub record Written : Type 0 where
   pub faults : ℕ
 
 -- bytes with an end to their room
-pub record Kept : Type 0 where
+pub record Bounded : Type 0 where
   pub bytes : List ℕ
   pub room : ℕ

@@ -14,9 +14,9 @@ pub struct Store {
 impl Model for Store {
     ghost use Rattle.std.specs.Prelude.{◌≤◌, vec_len};
     ghost use Rattle.std.specs.Vec.{vec_capacity};
-    ghost use Rattle.uv_io.specs.Memory.{Kept};
+    ghost use Rattle.uv_io.specs.Memory.{Bounded};
 
-    ghost Value = { Kept };
+    ghost Value = { Bounded };
 
     ghost view = { λ s. record { bytes = s.bytes.items; room = s.room } };
 

@@ -24,7 +24,7 @@ pub enum Duped {
 }
 
 /// The frames between the devices, at most `LINK_FRAMES`, in the order in which they were sent. In Linux the network has
-/// them, and each device a queue of what came in (`rxe_queue_req_pkt` and `rxe_resp_queue_pkt` of `rxe_recv.c` and
+/// them, and each device a queue of what came in (`rxe_comp_queue_pkt` of `rxe_comp.c` and `rxe_resp_queue_pkt` of
 /// `rxe_resp.c`); the bound and the one order for both directions are this project's own. Contracts see the list of the
 /// frames, the oldest first. Only its making, and doubling a frame, take memory.
 #[derive(Debug, Drop)]

@@ -16,7 +16,7 @@ use Rattle.uv_machine.specs.declared.entry.Word.{Word}
 use Rattle.uv_machine.specs.declared.entry.Word.TheVariants.{Reserve, Look, Make, Commit, Act, Lock, Check, Finish, Abort, Free, Exit}
 use Rattle.uv_machine.specs.declared.call.InFlight.{InFlight}
 use Rattle.uv_machine.specs.Plans.{plan_of, plan_for, freeing, next_place}
-use Rattle.uv_machine.specs.Accounts.{words_ahead, word_steps, is_make, abort_steps, free_steps, steps_back, steps_on, makes_ahead, steps_behind, new_object_owes, making_owes, one_if, making_comes}
+use Rattle.uv_machine.specs.Accounts.{words_ahead, word_steps, is_make, count_of, free_steps, steps_back, steps_on, makes_ahead, steps_behind, new_object_owes, making_owes, one_if, making_comes}
 use Rattle.uv_machine.proofs.Planned.{InPlan, IsClosing, next_place-in_plan, drop-here, drop-behind}
 
 -- The lists of words.
@@ -164,7 +164,7 @@ length-ids_behind (Four a b c d) e = refl
 -- The steps behind a turn.
 
 -- a word that makes nothing
-pub fewer_by : (b : Bool) (w s : ℕ) (call call' : InFlight) → abort_steps call'.reserved ≡ abort_steps call.reserved → free_steps call' + 1 ≤ free_steps call + w → steps_by b s call' < steps_by b (w + s) call
+pub fewer_by : (b : Bool) (w s : ℕ) (call call' : InFlight) → count_of call'.reserved ≡ count_of call.reserved → free_steps call' + 1 ≤ free_steps call + w → steps_by b s call' < steps_by b (w + s) call
 fewer_by true w s call call' aborts frees = omega arith
 fewer_by false w s call call' aborts frees = omega arith
 
@@ -173,11 +173,11 @@ pub fewer_before_make : (w s : ℕ) (call call' : InFlight) → free_steps call'
 fewer_before_make w s call call' frees = omega arith
 
 -- the Make
-pub fewer_made : (b : Bool) (s : ℕ) (call call' : InFlight) → abort_steps call'.reserved ≡ 0 → free_steps call' ≡ free_steps call → steps_by b s call' < steps_by true (1 + s) call
+pub fewer_made : (b : Bool) (s : ℕ) (call call' : InFlight) → count_of call'.reserved ≡ 0 → free_steps call' ≡ free_steps call → steps_by b s call' < steps_by true (1 + s) call
 fewer_made true s call call' aborts frees = omega arith
 fewer_made false s call call' aborts frees = omega arith
 
-abort_most : (number : Option ℕ) → abort_steps number ≤ 1
+abort_most : (number : Option ℕ) → count_of number ≤ 1
 abort_most None = omega arith
 abort_most (Some n) = omega arith
 

@@ -22,12 +22,12 @@ use Rattle.uv_machine.specs.declared.object.Change.{Change}
 use Rattle.uv_machine.specs.declared.object.Change.TheVariants.{ToLive, ToDoomed, ToHusk, ToBound}
 use Rattle.uv_machine.specs.declared.call.InFlight.{InFlight}
 use Rattle.uv_machine.specs.declared.state.State.{State}
-use Rattle.uv_machine.specs.Objects.{has_id, in_file, is_doomed, is_husk, is_standing_in, doomed_from, live_from, changed, on_object}
+use Rattle.uv_machine.specs.Objects.{has_id, in_file, is_doomed, is_husk, is_standing_in, doomed_from, live_from, with_change, on_object}
 use Rattle.uv_machine.specs.Plans.{next_word, own_object, acted_on}
 use Rattle.uv_machine.specs.States.{call_of, object_with, has_standing, is_quiet, is_closing, phase_of}
 use Rattle.uv_machine.specs.Steps.{told}
 use Rattle.uv_machine.specs.Effects.{refusal_in, with_new, next_id, act, binding_of, with_room_for, finish, not_with_id, not_in_file, gone_from, unless_answered}
-use Rattle.uv_machine.specs.Outside.{is_swept, may_go_object}
+use Rattle.uv_machine.specs.Outside.{may_sweep, may_go_object}
 use Rattle.uv_machine.specs.Histories.{Allowed, after}
 use Rattle.uv_machine.specs.Accounts.{one_if}
 use Rattle.uv_machine.specs.Lives.{is_doomed_object, releases}
@@ -120,7 +120,7 @@ keeps_standing ToDoomed = true
 keeps_standing ToHusk = false
 keeps_standing (ToBound binding) = true
 
-changed_husk : (b : Bool) (change : Change) (x : Object) → keeps_standing change ≡ true → is_husk (if b then changed change x else x).phase ≡ is_husk x.phase
+changed_husk : (b : Bool) (change : Change) (x : Object) → keeps_standing change ≡ true → is_husk (if b then with_change change x else x).phase ≡ is_husk x.phase
 changed_husk true ToLive x e = live_husk x.phase
 changed_husk true ToDoomed x e = doomed_husk x.phase
 changed_husk true ToHusk x e = absurd cc
@@ -306,11 +306,11 @@ doomed_stands phase.Husk h = absurd cc
 gone_here : (m : State) (o : ℕ) (x : Object) → object_with m o ≡ Some x → is_doomed x.phase ≡ true → stands_in m.objects o ≡ true
 gone_here m o x e doomed = ap stands_slot e ∙ doomed_stands x.phase doomed
 
-husk_here : (i : ℕ) (x : Object) (b : Bool) → b ≡ true → is_husk (if b then changed ToHusk x else x).phase ≡ true
+husk_here : (i : ℕ) (x : Object) (b : Bool) → b ≡ true → is_husk (if b then with_change ToHusk x else x).phase ≡ true
 husk_here i x true e = refl
 husk_here i x false e = absurd cc
 
-husk_elsewhere : (i : ℕ) (x : Object) (b : Bool) → b ≡ false → (if b then changed ToHusk x else x) ≡ x
+husk_elsewhere : (i : ℕ) (x : Object) (b : Bool) → b ≡ false → (if b then with_change ToHusk x else x) ≡ x
 husk_elsewhere i x true e = absurd cc
 husk_elsewhere i x false e = refl
 
@@ -324,7 +324,7 @@ husk_slot i o objects (Some x) e ne =
 gone_sum : (m : State) (o i kept n : ℕ) (slot : Option Object) → object_with m i ≡ slot → may_go_object m slot ≡ true → Balanced m o n → Balanced (gone_from m i slot) o (n + one_if (i == o))
 gone_sum m o i kept n None e may b = absurd cc
 gone_sum m o i kept n (Some x) e may b =
-    let doomed = (and_parts (is_doomed x.phase) (is_swept m x.file) may).0 in
+    let doomed = (and_parts (is_doomed x.phase) (may_sweep m x.file) may).0 in
     let p = Passes-find (has_id i) x m.objects e in
     let found = find_changed o i ToHusk m.objects in
     ⊎_elim

@@ -20,12 +20,12 @@ use Rattle.uv_machine.specs.declared.pool.Cell.{Cell}
 use Rattle.uv_machine.specs.declared.pool.Pool.{Pool}
 use Rattle.uv_machine.specs.declared.call.InFlight.{InFlight}
 use Rattle.uv_machine.specs.declared.state.State.{State}
-use Rattle.uv_machine.specs.Objects.{has_id, is_doomed, is_husk, doomed_from, live_from, changed, on_object}
+use Rattle.uv_machine.specs.Objects.{has_id, is_doomed, is_husk, doomed_from, live_from, with_change, on_object}
 use Rattle.uv_machine.specs.Cells.{full_pool}
 use Rattle.uv_machine.specs.Plans.{own_object, acted_on}
 use Rattle.uv_machine.specs.States.{object_with, start}
 use Rattle.uv_machine.specs.Effects.{refusal_in, act, binding_of, finish, with_burial, buried_if_doomed, not_with_id, not_in_file, gone_from, unless_answered}
-use Rattle.uv_machine.specs.Outside.{is_swept, may_go_object}
+use Rattle.uv_machine.specs.Outside.{may_sweep, may_go_object}
 use Rattle.uv_machine.specs.Histories.{Allowed, after, state_from, IsLegalFrom}
 use Rattle.uv_machine.specs.Reached.{IsIn, IsCelled}
 use Rattle.uv_machine.specs.Laws.{LegalIsCelled}
@@ -39,14 +39,14 @@ use Rattle.uv_machine.proofs.Celled.{StandsAs, celled_as, celled_buried, celled_
 
 -- What changes leave of an object.
 
-changed_index : (b : Bool) (change : Change) (x : Object) → (if b then changed change x else x).index ≡ x.index
+changed_index : (b : Bool) (change : Change) (x : Object) → (if b then with_change change x else x).index ≡ x.index
 changed_index true ToLive x = refl
 changed_index true ToDoomed x = refl
 changed_index true ToHusk x = refl
 changed_index true (ToBound binding) x = refl
 changed_index false change x = refl
 
-changed_generation : (b : Bool) (change : Change) (x : Object) → (if b then changed change x else x).generation ≡ x.generation
+changed_generation : (b : Bool) (change : Change) (x : Object) → (if b then with_change change x else x).generation ≡ x.generation
 changed_generation true ToLive x = refl
 changed_generation true ToDoomed x = refl
 changed_generation true ToHusk x = refl
@@ -65,7 +65,7 @@ doomed_standing phase.Live e = refl
 doomed_standing phase.Doomed e = refl
 doomed_standing phase.Husk e = absurd cc
 
-changed_standing : (b : Bool) (change : Change) (x : Object) → is_husk (if b then changed change x else x).phase ≡ false → is_husk x.phase ≡ false
+changed_standing : (b : Bool) (change : Change) (x : Object) → is_husk (if b then with_change change x else x).phase ≡ false → is_husk x.phase ≡ false
 changed_standing true ToLive x e = live_standing x.phase e
 changed_standing true ToDoomed x e = doomed_standing x.phase e
 changed_standing true ToHusk x e = absurd cc
@@ -161,7 +161,7 @@ gone_apart objects o y k e same =
     let from = IsIn-map (on_object o ToHusk) y objects k in
     let x = from.item in
     let id : x.id ≡ o = sym (on_object-id o ToHusk x) ∙ sym (ap (λ (v : Object). v.id) from.gives) ∙ same in
-    let husk : is_husk y.phase ≡ true = ap (λ (v : Object). is_husk v.phase) from.gives ∙ ap (λ b. is_husk (if b then changed ToHusk x else x).phase) (eq-eqb x.id o id) in
+    let husk : is_husk y.phase ≡ true = ap (λ (v : Object). is_husk v.phase) from.gives ∙ ap (λ b. is_husk (if b then with_change ToHusk x else x).phase) (eq-eqb x.id o id) in
     cc
 
 celled_gone : (m : State) (o : ℕ) (slot : Option Object) → object_with m o ≡ slot → may_go_object m slot ≡ true → Celled m → Celled (gone_from m o slot)
@@ -169,7 +169,7 @@ celled_gone m o None e may c = absurd cc
 celled_gone m o (Some x) e may c =
     let p = Passes-find (has_id o) x m.objects e in
     let id = eqb-true x.id o p.test in
-    celled_buried m.pools m.objects (map (on_object o ToHusk) m.objects) x p.within (doomed_stands x.phase (and_parts (is_doomed x.phase) (is_swept m x.file) may).0)
+    celled_buried m.pools m.objects (map (on_object o ToHusk) m.objects) x p.within (doomed_stands x.phase (and_parts (is_doomed x.phase) (may_sweep m x.file) may).0)
     (stands_map m.objects o ToHusk)
     (λ y k e' same. gone_apart m.objects o y k e' (same ∙ id))
     c

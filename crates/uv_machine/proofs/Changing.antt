@@ -12,11 +12,11 @@ use Rattle.uv_machine.specs.declared.object.Binding.{Binding}
 use Rattle.uv_machine.specs.declared.object.Object.{Object}
 use Rattle.uv_machine.specs.declared.object.Change.{Change}
 use Rattle.uv_machine.specs.declared.object.Change.TheVariants.{ToLive, ToDoomed, ToHusk, ToBound}
-use Rattle.uv_machine.specs.Objects.{has_id, is_made, is_live, is_doomed, is_husk, uses_object, doomed_from, live_from, no_ids, bound_uses, changed, on_object}
+use Rattle.uv_machine.specs.Objects.{has_id, is_made, is_live, is_doomed, is_husk, uses_object, doomed_from, live_from, no_ids, bound_uses, with_change, on_object}
 
 -- the object or what a change makes of it
 abbrev pub changed_if : Bool → Change → Object → Object
-changed_if b change x = if b then changed change x else x
+changed_if b change x = if b then with_change change x else x
 
 -- What every change keeps.
 

@@ -28,12 +28,12 @@ use Rattle.uv_machine.specs.declared.object.Change.{Change}
 use Rattle.uv_machine.specs.declared.object.Change.TheVariants.{ToLive, ToDoomed, ToHusk, ToBound}
 use Rattle.uv_machine.specs.declared.call.InFlight.{InFlight}
 use Rattle.uv_machine.specs.declared.state.State.{State}
-use Rattle.uv_machine.specs.Objects.{has_id, is_live, is_doomed, changed, on_object}
+use Rattle.uv_machine.specs.Objects.{has_id, is_live, is_doomed, with_change, on_object}
 use Rattle.uv_machine.specs.Plans.{own_object, acted_on, looked_at}
 use Rattle.uv_machine.specs.States.{call_of, object_with, home_cell}
 use Rattle.uv_machine.specs.Acts.{may_bind, bind_refusal, inval_unless, act_refusal}
 use Rattle.uv_machine.specs.Effects.{refusal_in, act, binding_of, not_with_id, not_in_file, gone_from, unless_answered}
-use Rattle.uv_machine.specs.Outside.{is_swept, may_go_object}
+use Rattle.uv_machine.specs.Outside.{may_sweep, may_go_object}
 use Rattle.uv_machine.specs.Histories.{Allowed, after}
 use Rattle.uv_machine.specs.Reached.{IsIn, AllSuit, Reached, look_count}
 use Rattle.uv_machine.proofs.Members.{IsIn-map, Passes-find, Passes-filter}
@@ -74,11 +74,11 @@ pub record Begins (m : State) (z : Object) : Type 0 where
 -- where an object comes from that stands after an entry
 pub data Comes (m : State) (y : Object) : Type 0 where
   Stays : IsIn y m.objects → Comes m y
-  ToLives : (x : Object) → IsIn x m.objects → y ≡ changed ToLive x → Comes m y
-  Dooms : (x : Object) → IsIn x m.objects → y ≡ changed ToDoomed x → Comes m y
-  Husks : (x : Object) → IsIn x m.objects → is_doomed x.phase ≡ true → y ≡ changed ToHusk x → Comes m y
-  Binds : (x : Object) (b : Binding) → IsIn x m.objects → x.kind ≡ Mw → is_live x.phase ≡ true → Lends m x b → y ≡ changed (ToBound (Some b)) x → Comes m y
-  Unbinds : (x : Object) → IsIn x m.objects → x.kind ≡ Mw → is_live x.phase ≡ true → y ≡ changed (ToBound None) x → Comes m y
+  ToLives : (x : Object) → IsIn x m.objects → y ≡ with_change ToLive x → Comes m y
+  Dooms : (x : Object) → IsIn x m.objects → y ≡ with_change ToDoomed x → Comes m y
+  Husks : (x : Object) → IsIn x m.objects → is_doomed x.phase ≡ true → y ≡ with_change ToHusk x → Comes m y
+  Binds : (x : Object) (b : Binding) → IsIn x m.objects → x.kind ≡ Mw → is_live x.phase ≡ true → Lends m x b → y ≡ with_change (ToBound (Some b)) x → Comes m y
+  Unbinds : (x : Object) → IsIn x m.objects → x.kind ≡ Mw → is_live x.phase ≡ true → y ≡ with_change (ToBound None) x → Comes m y
   IsNew : Begins m y → Comes m y
 
 -- every object of a list comes from somewhere
@@ -95,11 +95,11 @@ come_filter : (m : State) (p : Object → Bool) → AllCome m (filter p m.object
 come_filter m p y k = Comes.Stays (Passes-filter p y m.objects k).within
 
 -- an object after a change of the one with an id
-come_if : (m : State) (y x : Object) (change : Change) (here : Bool) → IsIn x m.objects → y ≡ (if here then changed change x else x) → (here ≡ true → y ≡ changed change x → Comes m y) → Comes m y
+come_if : (m : State) (y x : Object) (change : Change) (here : Bool) → IsIn x m.objects → y ≡ (if here then with_change change x else x) → (here ≡ true → y ≡ with_change change x → Comes m y) → Comes m y
 come_if m y x change true k e made = made refl e
 come_if m y x change false k e made = Comes.Stays (let P : Object → Type 0 = λ v. IsIn v m.objects in subst P (sym e) k)
 
-come_map : (m : State) (o : ℕ) (change : Change) → ((x y : Object) → IsIn x m.objects → x.id ≡ o → y ≡ changed change x → Comes m y) → AllCome m (map (on_object o change) m.objects)
+come_map : (m : State) (o : ℕ) (change : Change) → ((x y : Object) → IsIn x m.objects → x.id ≡ o → y ≡ with_change change x → Comes m y) → AllCome m (map (on_object o change) m.objects)
 come_map m o change made y k =
     let from = IsIn-map (on_object o change) y m.objects k in
     let x = from.item in
@@ -124,7 +124,7 @@ bind_found m call offset long access (Some x) (Some y) is is' e =
     record { window = x; region = y; window_is = is; region_is = is'; may = may_by (may_bind x y offset long access) e }
 
 module _ (m : State) (r : Reached m) (c : ℕ) (call : InFlight) (is : call_of m c ≡ Some call) where
-  bound_come : (offset long access : ℕ) → InPlan call word.Act → role_of call.request ≡ Acts (Bind offset long access) → bind_refusal (object_with m (acted_on call)) (object_with m (looked_at 1 call)) offset long access ≡ None → (x y : Object) → IsIn x m.objects → x.id ≡ acted_on call → y ≡ changed (ToBound (Some (binding_of call offset long access))) x → Comes m y
+  bound_come : (offset long access : ℕ) → InPlan call word.Act → role_of call.request ≡ Acts (Bind offset long access) → bind_refusal (object_with m (acted_on call)) (object_with m (looked_at 1 call)) offset long access ≡ None → (x y : Object) → IsIn x m.objects → x.id ≡ acted_on call → y ≡ with_change (ToBound (Some (binding_of call offset long access))) x → Comes m y
   bound_come offset long access plan role fine x y k id e =
       let b = bind_at m r c call is offset long access plan role in
       let first = acts_on_first m r c call is b.window _ b.looked refl in
@@ -154,7 +154,7 @@ module _ (m : State) (r : Reached m) (c : ℕ) (call : InFlight) (is : call_of m
       let has = (act_has call s.act (r.phased c call is) plan.fine s.acts).looking (omega (arith, s.at)) in
       omega (arith, has.looks_are, s.at)
 
-  unbound_come : (offset long access : ℕ) → InPlan call word.Act → role_of call.request ≡ Acts (Unbind offset long access) → (x y : Object) → IsIn x m.objects → x.id ≡ acted_on call → y ≡ changed (ToBound None) x → Comes m y
+  unbound_come : (offset long access : ℕ) → InPlan call word.Act → role_of call.request ≡ Acts (Unbind offset long access) → (x y : Object) → IsIn x m.objects → x.id ≡ acted_on call → y ≡ with_change (ToBound None) x → Comes m y
   unbound_come offset long access plan role x y k id e =
       let b = unbind_looks call.request offset long access role in
       let one = one_id call.looked (looked_at_act plan ∙ ap (λ (v : List Ask). length v) b.looks) in
@@ -207,7 +207,7 @@ come_gone : (m : State) (r : Reached m) (o : ℕ) (slot : Option Object) → obj
 come_gone m r o None e may = come_same m
 come_gone m r o (Some x) e may =
     let p = Passes-find (has_id o) x m.objects e in
-    let doomed = (and_parts (is_doomed x.phase) (is_swept m x.file) may).0 in
+    let doomed = (and_parts (is_doomed x.phase) (may_sweep m x.file) may).0 in
     come_map m o ToHusk (λ z y k id g. Comes.Husks z k (ap (λ (v : Object). is_doomed v.phase) (same_object m r z x k p.within (id ∙ sym (eqb-true x.id o p.test))) ∙ doomed) g)
 
 -- each object behind an entry comes from somewhere

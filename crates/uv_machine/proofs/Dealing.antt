@@ -25,7 +25,7 @@ use Rattle.uv_machine.specs.Plans.{next_word, own_object, closing}
 use Rattle.uv_machine.specs.States.{object_with, home_cell, home_of_kind}
 use Rattle.uv_machine.specs.Steps.{told, make_told, cell_told, refused_told, step_answer}
 use Rattle.uv_machine.specs.Effects.{refusal_in, with_burial, act, buried_if_doomed, generation_in, gone_from, unless_answered}
-use Rattle.uv_machine.specs.Outside.{is_swept, may_go_object}
+use Rattle.uv_machine.specs.Outside.{may_sweep, may_go_object}
 use Rattle.uv_machine.specs.Histories.{Allowed, after, kept_in}
 use Rattle.uv_machine.specs.Accounts.{is_make}
 use Rattle.uv_machine.specs.Reached.{IsIn, Reached}
@@ -204,7 +204,7 @@ deals_gone : (m : State) (o : ℕ) (slot : Option Object) → object_with m o �
 deals_gone m o None e may = Deals.DealsNone refl refl refl
 deals_gone m o (Some x) e may =
     let p = Passes-find (has_id o) x m.objects e in
-    Deals.BuriesOne x refl refl (record { within = p.within; doomed = (and_parts (is_doomed x.phase) (is_swept m x.file) may).0; pools = refl })
+    Deals.BuriesOne x refl refl (record { within = p.within; doomed = (and_parts (is_doomed x.phase) (may_sweep m x.file) may).0; pools = refl })
 
 pub deals_after : (m : State) (e : Entry) → Reached m → Numbered m → Allowed m e → Deals m (new_by m e) (after m e)
 deals_after m (Open c f d a) r numbered allowed = deals_unless m _ (refusal_in a) refl refl

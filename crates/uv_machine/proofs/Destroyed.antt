@@ -1,4 +1,5 @@
 -- What a destroy's own steps say of how it ends.
+use Rattle.uv_machine.specs.Accounts.{count_of}
 use Rattle.std.proofs.Common.{◌≡◌, ◌<◌, ℕ, zero, suc, Bool, true, false, List, [], ◌∷◌, ◌++◌, Option, Some, None, length, refl, ap, sym, ◌∙◌, subst, arith, ⊎_elim, inl, inr}
 use Rattle.std.specs.Prelude.{not, ◌==◌, slice_get, if◌then◌else◌}
 use Rattle.std.proofs.lemmas.Option.{none-some, same_Some}
@@ -22,7 +23,7 @@ use Rattle.uv_machine.specs.declared.entry.Word.{Word}
 use Rattle.uv_machine.specs.declared.entry.Word.TheVariants.{Reserve, Look, Make, Commit, Act, Lock, Check, Finish, Abort, Free, Exit}
 use Rattle.uv_machine.specs.declared.entry.Answer.{Answer}
 use Rattle.uv_machine.specs.declared.entry.Answer.TheVariants as answer
-use Rattle.uv_machine.specs.declared.entry.Done.{Done}
+use Rattle.uv_machine.specs.declared.entry.CallStep.{CallStep}
 use Rattle.uv_machine.specs.declared.entry.Entry.{Entry}
 use Rattle.uv_machine.specs.declared.entry.Entry.TheVariants.{Open, Enter, Step, Unplug, Tear, Kill, Gone, Dissociated, Closed}
 use Rattle.uv_num.specs.declared.limits.TheConstants.{ACTOR_PLACES}
@@ -35,8 +36,8 @@ use Rattle.uv_machine.specs.States.{call_of, phase_of, is_callable, published, h
 use Rattle.uv_machine.specs.Steps.{told, lock_found, lock_told, step_answer, step_of, found_at, next_from}
 use Rattle.uv_machine.specs.Effects.{refusal_in, unless_answered, put_call}
 use Rattle.uv_machine.specs.Histories.{Allowed, after, kept_in, IsLegalFrom, state_from, state_of}
-use Rattle.uv_machine.specs.Reached.{look_count, count_of, Reached, HasInDestroy, HasRefused, HasBehind, IsPhased}
-use Rattle.uv_machine.specs.Words.{steps_with, steps_from, steps_of, step_done, is_lock_errno, DestroyEnd, DestroyEnds}
+use Rattle.uv_machine.specs.Reached.{look_count, Reached, HasInDestroy, HasRefused, HasBehind, IsPhased}
+use Rattle.uv_machine.specs.Words.{steps_with, steps_from, steps_of_call, step_done, is_lock_errno, DestroyEnd, DestroyEnds}
 use Rattle.uv_machine.proofs.Planned.{InPlan, IsClosing, stands_in_plan, next_word-planned, is_closing, next_place-in_plan, closing_abort, closing_free}
 use Rattle.uv_machine.proofs.Phased.{destroy_has}
 use Rattle.uv_machine.proofs.Turns as turns
@@ -50,7 +51,7 @@ use Rattle.uv_machine.proofs.Reaching.{start_calls, new_or_old, was_callable, Re
 
 -- How far a destroy is, and the steps that it has made.
 
-pub data DestroySo (call : InFlight) (steps : List Done) : Type 0 where
+pub data DestroySo (call : InFlight) (steps : List CallStep) : Type 0 where
   Begun : call.place ≡ 0 → call.refusal ≡ None → steps ≡ [] → DestroySo call steps
   Unlocked : (o : ℕ) (e : Errno) → call.refusal ≡ Some e → is_lock_errno e → steps ≡ step_done Lock o (answer.Refused e) ∷ [] → DestroySo call steps
   Locked : (o : ℕ) → call.place ≡ 1 → call.refusal ≡ None → call.locked ≡ Some o → steps ≡ step_done Lock o answer.Ok ∷ [] → DestroySo call steps
@@ -58,11 +59,11 @@ pub data DestroySo (call : InFlight) (steps : List Done) : Type 0 where
   Checked : (o : ℕ) → call.place ≡ 2 → call.refusal ≡ None → call.locked ≡ Some o → steps ≡ step_done Lock o answer.Ok ∷ step_done Check o answer.Ok ∷ [] → DestroySo call steps
   Finished : (o kept : ℕ) → call.place ≡ 3 → call.refusal ≡ None → steps ≡ step_done Lock o answer.Ok ∷ step_done Check o answer.Ok ∷ step_done Finish o (answer.Kept kept) ∷ [] → DestroySo call steps
 
-pub record DestroyTold (call : InFlight) (steps : List Done) : Type 0 where
+pub record DestroyTold (call : InFlight) (steps : List CallStep) : Type 0 where
   pub outcome : call.outcome ≡ answer.Ok
   pub so : DestroySo call steps
 
-told_as : (call call' : InFlight) (steps : List Done) → call ≡ call' → DestroyTold call' steps → DestroyTold call steps
+told_as : (call call' : InFlight) (steps : List CallStep) → call ≡ call' → DestroyTold call' steps → DestroyTold call steps
 told_as call call' steps e t = let P : InFlight → Type 0 = λ v. DestroyTold v steps in subst P (sym e) t
 
 -- The steps of a destroy stand at one place each.
@@ -103,9 +104,9 @@ lock_errno_by m c f (Acts what) asked e same h = absurd cc
 -- the state that a step carries
 found_is : (m : State) (c : ℕ) (w : Word) (o : ℕ) (found : Option QpState) (a : Answer) (call : InFlight) → Allowed m (Step c w o found a) → call_of m c ≡ Some call → next_word call ≡ w → found_at call w found ≡ found
 found_is m c w o found a call allowed is word =
-    let d : Done = record { word = w; object = o; found = found; answer = a } in
+    let d : CallStep = record { word = w; object = o; found = found; answer = a } in
     let same : step_of m c found (kept_in a) call ≡ d = same_Some (step_of m c found (kept_in a) call) d (ap (next_from m c found (kept_in a)) (sym is) ∙ allowed.1) in
-    ap (λ v. found_at call v found) (sym word) ∙ ap (λ (v : Done). v.found) same
+    ap (λ v. found_at call v found) (sym word) ∙ ap (λ (v : CallStep). v.found) same
 
 done_is : (w v : Word) (o i : ℕ) (found : Option QpState) (a b : Answer) → w ≡ v → o ≡ i → None ≡ found → a ≡ b → record { word = w; object = o; found = found; answer = a } ≡ step_done v i b
 done_is w v o i found a b word object none same =
@@ -114,12 +115,12 @@ done_is w v o i found a b word object none same =
     ∙ (ap (λ (x : Option QpState). record { word = v; object = i; found = x; answer = a }) (sym none)
     ∙ ap (λ (x : Answer). step_done v i x) same))
 
-more_steps : (steps before : List Done) (d e : Done) → steps ≡ before → d ≡ e → steps ++ d ∷ [] ≡ before ++ e ∷ []
+more_steps : (steps before : List CallStep) (d e : CallStep) → steps ≡ before → d ≡ e → steps ++ d ∷ [] ≡ before ++ e ∷ []
 more_steps steps before d e one two = ap (λ v. v ++ d ∷ []) one ∙ ap (λ v. before ++ v ∷ []) two
 
 -- what is told of a destroy by its place
 
-steps_at_lock : (call : InFlight) (steps : List Done) → DestroySo call steps → call.place ≡ 0 → call.refusal ≡ None → steps ≡ []
+steps_at_lock : (call : InFlight) (steps : List CallStep) → DestroySo call steps → call.place ≡ 0 → call.refusal ≡ None → steps ≡ []
 steps_at_lock call steps (DestroySo.Begun at fine is) here none = is
 steps_at_lock call steps (DestroySo.Unlocked o e fine lock is) here none = absurd (none-some e (sym none ∙ fine))
 steps_at_lock call steps (DestroySo.Locked o at fine own is) here none = absurd (omega (arith, at, here))
@@ -127,12 +128,12 @@ steps_at_lock call steps (DestroySo.Unchecked o fine is) here none = absurd (non
 steps_at_lock call steps (DestroySo.Checked o at fine own is) here none = absurd (omega (arith, at, here))
 steps_at_lock call steps (DestroySo.Finished o kept at fine is) here none = absurd (omega (arith, at, here))
 
-pub record HasLocked (call : InFlight) (steps : List Done) : Type 0 where
+pub record HasLocked (call : InFlight) (steps : List CallStep) : Type 0 where
   pub object : ℕ
   pub own : call.locked ≡ Some object
   pub is : steps ≡ step_done Lock object answer.Ok ∷ []
 
-steps_at_check : (call : InFlight) (steps : List Done) → DestroySo call steps → call.place ≡ 1 → call.refusal ≡ None → HasLocked call steps
+steps_at_check : (call : InFlight) (steps : List CallStep) → DestroySo call steps → call.place ≡ 1 → call.refusal ≡ None → HasLocked call steps
 steps_at_check call steps (DestroySo.Begun at fine is) here none = absurd (omega (arith, at, here))
 steps_at_check call steps (DestroySo.Unlocked o e fine lock is) here none = absurd (none-some e (sym none ∙ fine))
 steps_at_check call steps (DestroySo.Locked o at fine own is) here none = record { object = o; own = own; is = is }
@@ -140,12 +141,12 @@ steps_at_check call steps (DestroySo.Unchecked o fine is) here none = absurd (no
 steps_at_check call steps (DestroySo.Checked o at fine own is) here none = absurd (omega (arith, at, here))
 steps_at_check call steps (DestroySo.Finished o kept at fine is) here none = absurd (omega (arith, at, here))
 
-pub record HasChecked (call : InFlight) (steps : List Done) : Type 0 where
+pub record HasChecked (call : InFlight) (steps : List CallStep) : Type 0 where
   pub object : ℕ
   pub own : call.locked ≡ Some object
   pub is : steps ≡ step_done Lock object answer.Ok ∷ step_done Check object answer.Ok ∷ []
 
-steps_at_finish : (call : InFlight) (steps : List Done) → DestroySo call steps → call.place ≡ 2 → call.refusal ≡ None → HasChecked call steps
+steps_at_finish : (call : InFlight) (steps : List CallStep) → DestroySo call steps → call.place ≡ 2 → call.refusal ≡ None → HasChecked call steps
 steps_at_finish call steps (DestroySo.Begun at fine is) here none = absurd (omega (arith, at, here))
 steps_at_finish call steps (DestroySo.Unlocked o e fine lock is) here none = absurd (none-some e (sym none ∙ fine))
 steps_at_finish call steps (DestroySo.Locked o at fine own is) here none = absurd (omega (arith, at, here))
@@ -182,7 +183,7 @@ frees_none (Two a b) none free = omega (arith, none)
 frees_none (Three a b c) none free = omega (arith, none)
 frees_none (Four a b c d) none free = omega (arith, none)
 
-module _ (m : State) (r : Reached m) (c : ℕ) (call : InFlight) (is : call_of m c ≡ Some call) (asked : Ask) (role : role_of call.request ≡ Destroys asked) (steps : List Done) (t : DestroyTold call steps) (w : Word) (o : ℕ) (found : Option QpState) (a : Answer) (word : next_word call ≡ w) (object : (told m c call found w).object ≡ o) (answers : step_answer m call found (kept_in a) w (told m c call found w).refusal ≡ a) (carries : found_at call w found ≡ found) where
+module _ (m : State) (r : Reached m) (c : ℕ) (call : InFlight) (is : call_of m c ≡ Some call) (asked : Ask) (role : role_of call.request ≡ Destroys asked) (steps : List CallStep) (t : DestroyTold call steps) (w : Word) (o : ℕ) (found : Option QpState) (a : Answer) (word : next_word call ≡ w) (object : (told m c call found w).object ≡ o) (answers : step_answer m call found (kept_in a) w (told m c call found w).refusal ≡ a) (carries : found_at call w found ≡ found) where
   abbrev GoesOn : InFlight → Type 0
   GoesOn left = DestroyTold left (steps ++ record { word = w; object = o; found = found; answer = a } ∷ [])
 
@@ -292,10 +293,10 @@ module _ (m : State) (r : Reached m) (c : ℕ) (call : InFlight) (is : call_of m
 
 -- Through a history.
 
-abbrev pub TellsDestroy : State → ℕ → List Done → Type 0
+abbrev pub TellsDestroy : State → ℕ → List CallStep → Type 0
 TellsDestroy m c steps = (call : InFlight) (asked : Ask) → call_of m c ≡ Some call → role_of call.request ≡ Destroys asked → DestroyTold call steps
 
-tells_still : (m m' : State) (c : ℕ) (steps : List Done) → call_of m' c ≡ call_of m c → TellsDestroy m c steps → TellsDestroy m' c steps
+tells_still : (m m' : State) (c : ℕ) (steps : List CallStep) → call_of m' c ≡ call_of m c → TellsDestroy m c steps → TellsDestroy m' c steps
 tells_still m m' c steps same tells call asked is role = tells call asked (sym same ∙ is) role
 
 if_so : {X : Type 0} (b : Bool) (x y : X) → b ≡ true → (if b then x else y) ≡ x
@@ -306,8 +307,8 @@ if_not : {X : Type 0} (b : Bool) (x y : X) → b ≡ false → (if b then x else
 if_not true x y h = absurd cc
 if_not false x y h = refl
 
-tells_as : (m : State) (c : ℕ) (steps steps' : List Done) → steps ≡ steps' → TellsDestroy m c steps' → TellsDestroy m c steps
-tells_as m c steps steps' e tells = let P : List Done → Type 0 = λ v. TellsDestroy m c v in subst P (sym e) tells
+tells_as : (m : State) (c : ℕ) (steps steps' : List CallStep) → steps ≡ steps' → TellsDestroy m c steps' → TellsDestroy m c steps
+tells_as m c steps steps' e tells = let P : List CallStep → Type 0 = λ v. TellsDestroy m c v in subst P (sym e) tells
 
 tells_entered : (m : State) (b c f : ℕ) (request : Request) (e : Option Errno) → Reached m → b ≡ c → call_of m b ≡ None → (e ≡ None → is_callable (phase_of m f) ≡ true) → TellsDestroy (unless_answered m e (record m { calls = at_place m.calls b (put_call (entered f request)) })) c []
 tells_entered m b c f request (Some e) r same idle callable call asked is role = absurd (none-some call (sym idle ∙ (ap (call_of m) same ∙ is)))
@@ -317,7 +318,7 @@ tells_entered m b c f request None r same idle callable call asked is role =
     (λ old. absurd (old.0 same))
     (new_or_old m b f request r idle (callable refl) c call is)
 
-tells_stepped : (m : State) (c : ℕ) (w : Word) (o : ℕ) (found : Option QpState) (a : Answer) (steps : List Done) → Reached m → Allowed m (Step c w o found a) → TellsDestroy m c steps → TellsDestroy (after m (Step c w o found a)) c (steps ++ record { word = w; object = o; found = found; answer = a } ∷ [])
+tells_stepped : (m : State) (c : ℕ) (w : Word) (o : ℕ) (found : Option QpState) (a : Answer) (steps : List CallStep) → Reached m → Allowed m (Step c w o found a) → TellsDestroy m c steps → TellsDestroy (after m (Step c w o found a)) c (steps ++ record { word = w; object = o; found = found; answer = a } ∷ [])
 tells_stepped m c w o found a steps r allowed tells left asked is role =
     let m' = after m (Step c w o found a) in
     let t = IsTurn-allowed m c w o found a allowed in
@@ -327,7 +328,7 @@ tells_stepped m c w o found a steps r allowed tells left asked is role =
     let role' : role_of t.call.request ≡ Destroys asked = ap role_of (sym kept.1) ∙ role in
     told_turn m r c t.call t.is asked role' steps (tells t.call asked t.is role') w o found a t.word t.object t.answer (found_is m c w o found a t.call allowed t.is t.word) m' t.turn left now
 
-tells_after : (m : State) (e : Entry) (c : ℕ) (steps : List Done) → Reached m → Allowed m e → TellsDestroy m c steps → TellsDestroy (after m e) c (steps_with c steps e)
+tells_after : (m : State) (e : Entry) (c : ℕ) (steps : List CallStep) → Reached m → Allowed m e → TellsDestroy m c steps → TellsDestroy (after m e) c (steps_with c steps e)
 tells_after m (Open b f d a) c steps r allowed tells = tells_still m (after m (Open b f d a)) c steps (call_of-after m (Open b f d a) c refl) tells
 tells_after m (Enter b f request a) c steps r allowed tells =
     ⊎_elim
@@ -351,7 +352,7 @@ tells_after m (Gone o kept) c steps r allowed tells = tells_still m (after m (Go
 tells_after m (Dissociated f) c steps r allowed tells = tells_still m (after m (Dissociated f)) c steps (call_of-after m (Dissociated f) c refl) tells
 tells_after m (Closed f) c steps r allowed tells = tells_still m (after m (Closed f)) c steps (call_of-after m (Closed f) c refl) tells
 
-tells_from : (m : State) (h : List Entry) (c : ℕ) (steps : List Done) → Reached m → IsLegalFrom m h → TellsDestroy m c steps → TellsDestroy (state_from m h) c (steps_from c steps h)
+tells_from : (m : State) (h : List Entry) (c : ℕ) (steps : List CallStep) → Reached m → IsLegalFrom m h → TellsDestroy m c steps → TellsDestroy (state_from m h) c (steps_from c steps h)
 tells_from m [] c steps r legal tells = tells
 tells_from m (e ∷ h) c steps r legal tells =
     tells_from (after m e) h c (steps_with c steps e) (Reached-after m e legal.0 r) legal.1 (tells_after m e c steps r legal.0 tells)
@@ -370,7 +371,7 @@ planned_not_exit (Destroys ask) n (suc (suc zero)) asked same low none = none-so
 planned_not_exit (Destroys ask) n (suc (suc (suc place))) asked same low none = omega (arith, low)
 planned_not_exit (Acts what) n place asked same low none = cc
 
-end_by : (call : InFlight) (steps : List Done) (a : Answer) (asked : Ask) → role_of call.request ≡ Destroys asked → IsClosing call → call_answer call ≡ a → call.outcome ≡ answer.Ok → DestroySo call steps → DestroyEnd steps a
+end_by : (call : InFlight) (steps : List CallStep) (a : Answer) (asked : Ask) → role_of call.request ≡ Destroys asked → IsClosing call → call_answer call ≡ a → call.outcome ≡ answer.Ok → DestroySo call steps → DestroyEnd steps a
 end_by call steps a asked role ends tells outcome (DestroySo.Begun at fine is) =
     absurd (planned_not_exit (role_of call.request) (length (looks_of call.request)) call.place asked role (omega (arith, at)) (ends fine))
 end_by call steps a asked role ends tells outcome (DestroySo.Unlocked o e fine lock is) = DestroyEnd.AtLock o e lock is (sym tells ∙ ap (answer_behind call) fine)
@@ -387,4 +388,4 @@ destroy_ends h c o found a call asked legal is role allowed =
     let mine : t.call ≡ call = same_Some t.call call (sym t.is ∙ is) in
     let told = tells_from start h c [] Reached-start legal (tells_start c) call asked is role in
     let ends = is_closing call Exit (ap next_word (sym mine) ∙ t.word) refl in
-    end_by call (steps_of h c) a asked role ends.0 (ap call_answer (sym mine) ∙ t.answer) told.outcome told.so
+    end_by call (steps_of_call h c) a asked role ends.0 (ap call_answer (sym mine) ∙ t.answer) told.outcome told.so

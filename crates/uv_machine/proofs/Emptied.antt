@@ -22,11 +22,11 @@ use Rattle.uv_machine.specs.Objects.{in_file, is_made, is_live, is_doomed, is_hu
 use Rattle.uv_machine.specs.Plans.{next_word, is_call_on}
 use Rattle.uv_machine.specs.States.{the_call, call_of, phase_of, is_quiet, is_tearing, has_doomed, has_standing, start}
 use Rattle.uv_machine.specs.Effects.{after_step}
-use Rattle.uv_machine.specs.Outside.{is_swept}
+use Rattle.uv_machine.specs.Outside.{may_sweep}
 use Rattle.uv_machine.specs.Histories.{Allowed, after, IsLegalFrom, IsLegal, state_from, state_of}
 use Rattle.uv_machine.specs.Laws.{standing_count, is_of, moves}
 use Rattle.uv_machine.specs.Reached.{IsIn, IsHeldFor, Reached}
-use Rattle.uv_machine.specs.Removals.{live_count, is_of_file, gone_of, ends_of, kills_through, gone_through, SweepTakesOne, TeardownCounts, SweepWaits}
+use Rattle.uv_machine.specs.Removals.{live_count, is_of_file, goes_from, ends_of, kills_through, gone_through, SweepTakesOne, TeardownCounts, SweepWaits}
 use Rattle.uv_machine.proofs.GoingOn.{state_from-snoc, IsLegalFrom-snoc}
 use Rattle.uv_machine.proofs.Members.{fails_any, list_any-none}
 use Rattle.uv_machine.proofs.Sums.{count_by-none}
@@ -94,7 +94,7 @@ ended m f (Gone o kept) allowed ends = absurd cc
 ended m f (Dissociated k) allowed ends = ap (has_standing m) (sym (eqb-true k f ends)) ∙ dissociated_empty m k allowed
 ended m f (Closed k) allowed ends = ap (has_standing m) (sym (eqb-true k f ends)) ∙ closed_empty m k allowed
 
-through : (m : State) (f : ℕ) (es : List Entry) (last : Entry) → Reached m → is_swept m f ≡ true → IsLegalFrom m (es ++ last ∷ []) → list_any (ends_of f) es ≡ false → ends_of f last ≡ true
+through : (m : State) (f : ℕ) (es : List Entry) (last : Entry) → Reached m → may_sweep m f ≡ true → IsLegalFrom m (es ++ last ∷ []) → list_any (ends_of f) es ≡ false → ends_of f last ≡ true
     → (kills_through m f es ≡ live_count m f) × (gone_through m f es ≡ standing_count m f)
 through m f [] last r swept legal goes ends = let none = none_left m f (ended m f last legal.0 ends) in (sym none.0, sym none.1)
 through m f (e ∷ es) last r swept legal goes ends =
@@ -140,13 +140,13 @@ sweep_takes_one h f by kept x s free =
     let may = may_kill-swept h f by x s free in
     let go = may_go-killed h f by x s free in
     let legal : IsLegal (h ++ Kill x.id ∷ []) = IsLegalFrom-snoc start h (Kill x.id) s.legal may in
-    let now : is_swept (state_of h) f ≡ true = both_true (ap is_tearing s.tearing) s.quiet in
+    let now : may_sweep (state_of h) f ≡ true = both_true (ap is_tearing s.tearing) s.quiet in
     let goes_on = state_from-snoc start h (Kill x.id) in
-    let later : is_swept (state_of (h ++ Kill x.id ∷ [])) f ≡ true = ap (λ v. is_swept v f) goes_on ∙ swept_after (state_of h) (Kill x.id) f may now refl in
+    let later : may_sweep (state_of (h ++ Kill x.id ∷ [])) f ≡ true = ap (λ v. may_sweep v f) goes_on ∙ swept_after (state_of h) (Kill x.id) f may now refl in
     let killed = releases_count h (Kill x.id) f s.legal may now in
     let gone = releases_count (h ++ Kill x.id ∷ []) (Gone x.id kept) f legal go later in
     let shown = object_with-killed h f by x s free in
-    let one : one_if (gone_of (state_of (h ++ Kill x.id ∷ [])) f (Gone x.id kept)) ≡ 1 = ap (λ v. one_if (is_of_file f v)) shown.0 ∙ ap one_if (eq-eqb x.file f shown.1) in
+    let one : one_if (goes_from (state_of (h ++ Kill x.id ∷ [])) f (Gone x.id kept)) ≡ 1 = ap (λ v. one_if (is_of_file f v)) shown.0 ∙ ap one_if (eq-eqb x.file f shown.1) in
     omega (arith, killed, gone, one)
 
 -- A teardown that had to wait.
@@ -191,7 +191,7 @@ exit_objects m c o (Some call) a = refl
 
 -- the exit of the last call on a file that is torn down leaves none of its objects doomed
 module _ (m : State) (f : ℕ) (r : Reached m) (loud : is_quiet m f ≡ false) where
-  not_swept : is_swept m f ≡ true → ⊥
+  not_swept : may_sweep m f ≡ true → ⊥
   not_swept swept = let quiet : is_quiet m f ≡ true = and_right (is_tearing (phase_of m f)) (is_quiet m f) swept in cc
 
   clear_at_exit : (c : ℕ) (call : InFlight) (m' : State) → call_of m c ≡ Some call → next_word call ≡ Exit → ((b : ℕ) → c ≢ b → call_of m' b ≡ call_of m b) → m'.objects ≡ m.objects → is_quiet m' f ≡ true → has_doomed m' f ≡ false
@@ -211,7 +211,7 @@ module _ (m : State) (f : ℕ) (r : Reached m) (loud : is_quiet m f ≡ false) w
       cc))
       (λ other. quiet_none m' held.actor f held.call quiet (others held.actor other.1 ∙ held.is) (held.same ∙ of_it))
       (eqb_tells c held.actor))
-      (λ swept. not_swept (ap (is_swept m) (sym of_it) ∙ swept))
+      (λ swept. not_swept (ap (may_sweep m) (sym of_it) ∙ swept))
       (r.ending x k (and_right (in_file f x) (is_doomed x.phase) doomed)))))
 
   module _ (on : HasCallOn m f) where

@@ -27,15 +27,15 @@ use Rattle.uv_machine.specs.declared.object.Change.TheVariants.{ToLive, ToDoomed
 use Rattle.uv_machine.specs.declared.call.InFlight.{InFlight}
 use Rattle.uv_machine.specs.declared.state.State.{State}
 use Rattle.uv_machine.specs.Accounts.{one_if}
-use Rattle.uv_machine.specs.Objects.{has_id, in_file, is_live, is_doomed, is_husk, doomed_from, changed, on_object}
+use Rattle.uv_machine.specs.Objects.{has_id, in_file, is_live, is_doomed, is_husk, doomed_from, with_change, on_object}
 use Rattle.uv_machine.specs.Plans.{own_object, acted_on, entered, is_call_on}
 use Rattle.uv_machine.specs.States.{call_of, object_with, phase_of, device_of, is_unplugged, is_quiet, is_fresh, is_open, is_callable, is_tearing, is_removing, is_closing, has_users, has_doomed, has_standing, can_go, newest_free, start}
 use Rattle.uv_machine.specs.Effects.{refusal_in, act, binding_of, not_with_id, not_in_file, gone_from, with_file, opened, unless_answered, put_call}
-use Rattle.uv_machine.specs.Outside.{MayAnswer, is_swept, is_object, may_kill_object, may_kill, may_go_object, may_go}
+use Rattle.uv_machine.specs.Outside.{MayAnswer, may_sweep, is_object, may_kill_object, may_kill, may_go_object, may_go}
 use Rattle.uv_machine.specs.Histories.{Allowed, after, state_of}
 use Rattle.uv_machine.specs.Laws.{standing_count}
 use Rattle.uv_machine.specs.Reached.{IsIn, IsRising, Reached}
-use Rattle.uv_machine.specs.Removals.{live_count, is_of_file, kills_of, gone_of, ends_of, TornStaysQuiet, ReleasesCount, KillsCount}
+use Rattle.uv_machine.specs.Removals.{live_count, is_of_file, kills_of, goes_from, ends_of, TornStaysQuiet, ReleasesCount, KillsCount}
 use Rattle.uv_machine.proofs.GoingOn.{state_from-snoc}
 use Rattle.uv_machine.proofs.Members.{count_by-cons, Passes-find, IsIn-from_reverse, fails_any, list_any-none}
 use Rattle.uv_machine.proofs.Members as members
@@ -114,7 +114,7 @@ quiet_unless : (m m' : State) (r : Option Errno) (f : ℕ) → is_quiet m f ≡ 
 quiet_unless m m' None f quiet put = put refl
 quiet_unless m m' (Some e) f quiet put = quiet
 
-module _ (m : State) (f : ℕ) (swept : is_swept m f ≡ true) where
+module _ (m : State) (f : ℕ) (swept : may_sweep m f ≡ true) where
   tearing_now : is_tearing (phase_of m f) ≡ true
   tearing_now = and_left (is_tearing (phase_of m f)) (is_quiet m f) swept
 
@@ -168,7 +168,7 @@ module _ (m : State) (f : ℕ) (swept : is_swept m f ≡ true) where
 pub torn_stays_quiet : TornStaysQuiet
 torn_stays_quiet m e f allowed swept goes = (phase_after m f swept e allowed goes, quiet_after m f swept e allowed)
 
-pub swept_after : (m : State) (e : Entry) (f : ℕ) → Allowed m e → is_swept m f ≡ true → ends_of f e ≡ false → is_swept (after m e) f ≡ true
+pub swept_after : (m : State) (e : Entry) (f : ℕ) → Allowed m e → may_sweep m f ≡ true → ends_of f e ≡ false → may_sweep (after m e) f ≡ true
 swept_after m e f allowed swept goes =
     both_true (ap is_tearing (phase_after m f swept e allowed goes) ∙ tearing_now m f swept) (quiet_after m f swept e allowed)
 
@@ -213,7 +213,7 @@ one_if_same false = refl
 
 -- Objects that a change leaves, and the one that it changes.
 
-pub on_object-here : (o : ℕ) (change : Change) (x : Object) → x.id ≡ o → on_object o change x ≡ changed change x
+pub on_object-here : (o : ℕ) (change : Change) (x : Object) → x.id ≡ o → on_object o change x ≡ with_change change x
 on_object-here o change x e = ap (λ b. changed_if b change x) (eq-eqb x.id o e)
 
 pub on_object-apart : (o : ℕ) (change : Change) (x : Object) → x.id ≢ o → on_object o change x ≡ x
@@ -227,12 +227,12 @@ module _ (p : Object → Bool) (o : ℕ) (change : Change) where
       (λ x k. (let bounds = within_rising low top x xs k rising in ap p (on_object-apart o change x (let high = bounds.0 in omega arith))))
 
   -- the count changes as its one object does
-  pub count_changed : (low top : ℕ) (xs : List Object) (x : Object) → IsRising low xs top → IsIn x xs → x.id ≡ o → count_by p (map (on_object o change) xs) + one_if (p x) ≡ count_by p xs + one_if (p (changed change x))
+  pub count_changed : (low top : ℕ) (xs : List Object) (x : Object) → IsRising low xs top → IsIn x xs → x.id ≡ o → count_by p (map (on_object o change) xs) + one_if (p x) ≡ count_by p xs + one_if (p (with_change change x))
   count_changed low top [] x rising k id = absurd k
   count_changed low top (y ∷ ys) x rising (inl e) id =
       let same : y.id ≡ o = sym (ap (λ (v : Object). v.id) e) ∙ id in
       let rest = count_rest (y.id + 1) top ys rising.1 (omega arith) in
-      let here : members.one_if (p (on_object o change y)) ≡ one_if (p (changed change x)) = one_if_same (p (on_object o change y)) ∙ ap (λ v. one_if (p v)) (on_object-here o change y same ∙ ap (changed change) (sym e)) in
+      let here : members.one_if (p (on_object o change y)) ≡ one_if (p (with_change change x)) = one_if_same (p (on_object o change y)) ∙ ap (λ v. one_if (p v)) (on_object-here o change y same ∙ ap (with_change change) (sym e)) in
       let was : members.one_if (p y) ≡ one_if (p x) = one_if_same (p y) ∙ ap (λ v. one_if (p v)) (sym e) in
       omega (arith, count_by-cons p (on_object o change y) (map (on_object o change) ys), count_by-cons p y ys, rest, here, was)
   count_changed low top (y ∷ ys) x rising (inr k) id =
@@ -353,7 +353,7 @@ killed_by m o None r is may = absurd cc
 killed_by m o (Some x) r is may =
     let p = Passes-find (has_id o) x m.objects is in
     let id : x.id ≡ o = eqb-true x.id o p.test in
-    let newest = and_right (not (has_doomed m x.file)) (is_object o (newest_free m x.file)) (and_right (is_swept m x.file) (not (has_doomed m x.file) && is_object o (newest_free m x.file)) may) in
+    let newest = and_right (not (has_doomed m x.file)) (is_object o (newest_free m x.file)) (and_right (may_sweep m x.file) (not (has_doomed m x.file) && is_object o (newest_free m x.file)) may) in
     let y = live_slot m x.file o (newest_free m x.file) refl newest in
     let same : x ≡ y.item = same_object m r x y.item p.within y.within (id ∙ sym y.id) in
     record { item = x; is = is; within = p.within; id = id; phase = ap (λ (v : Object). is_live v.phase) same ∙ y.live }
@@ -365,7 +365,7 @@ gone_by : (m : State) (o : ℕ) (slot : Option Object) → object_with m o ≡ s
 gone_by m o None is may = absurd cc
 gone_by m o (Some x) is may =
     let p = Passes-find (has_id o) x m.objects is in
-    record { item = x; is = is; within = p.within; id = eqb-true x.id o p.test; phase = and_left (is_doomed x.phase) (is_swept m x.file) may }
+    record { item = x; is = is; within = p.within; id = eqb-true x.id o p.test; phase = and_left (is_doomed x.phase) (may_sweep m x.file) may }
 
 pub gone : (m : State) (o : ℕ) → may_go m o ≡ true → IsTaken m o is_doomed
 gone m o may = gone_by m o (object_with m o) refl may
@@ -394,7 +394,7 @@ module _ (m : State) (r : Reached m) (f : ℕ) (q : Phase → Bool) where
   count_killed o t =
       let x = t.item in
       let now : one_if (counts f q x) ≡ one_if (in_file f x && q phase.Live) = ap (λ v. one_if (in_file f x && q v)) (live_is x.phase t.phase) in
-      let later : one_if (counts f q (changed ToDoomed x)) ≡ one_if (in_file f x && q phase.Doomed) = ap (λ v. one_if (in_file f x && q v)) (doomed_of_live x.phase t.phase) in
+      let later : one_if (counts f q (with_change ToDoomed x)) ≡ one_if (in_file f x && q phase.Doomed) = ap (λ v. one_if (in_file f x && q v)) (doomed_of_live x.phase t.phase) in
       omega (arith, count_changed (counts f q) o ToDoomed 0 m.made m.objects x r.graph.rising t.within t.id, now, later)
 
   count_gone : (o : ℕ) (t : IsTaken m o is_doomed) → count_by (counts f q) (map (on_object o ToHusk) m.objects) + one_if (in_file f t.item && q phase.Doomed) ≡ count_by (counts f q) m.objects + one_if (in_file f t.item && q phase.Husk)
@@ -425,7 +425,7 @@ one_and_false : (b : Bool) → one_if (b && false) ≡ 0
 one_and_false true = refl
 one_and_false false = refl
 
-module _ (m : State) (r : Reached m) (f : ℕ) (swept : is_swept m f ≡ true) where
+module _ (m : State) (r : Reached m) (f : ℕ) (swept : may_sweep m f ≡ true) where
   step_apart : (c : ℕ) (call : InFlight) → call_of m c ≡ Some call → call.file ≢ f
   step_apart c call is = quiet_none m c f call (quiet_now m f swept) is
 
@@ -448,7 +448,7 @@ module _ (m : State) (r : Reached m) (f : ℕ) (swept : is_swept m f ≡ true) w
   standing_killed : (o : ℕ) (t : IsTaken m o is_live) → count_by (counts f stands) (map (on_object o ToDoomed) m.objects) ≡ count_by (counts f stands) m.objects
   standing_killed o t = omega (arith, count_killed m r f stands o t)
 
-  pub standing_after : (e : Entry) → Allowed m e → standing_count (after m e) f + one_if (gone_of m f e) ≡ standing_count m f
+  pub standing_after : (e : Entry) → Allowed m e → standing_count (after m e) f + one_if (goes_from m f e) ≡ standing_count m f
   standing_after (Open c k d a) allowed = omega (arith, count_unless m r f stands refl (with_file m k (opened c d)) (refusal_in a) refl)
   standing_after (Enter c k request a) allowed = omega (arith, count_unless m r f stands refl (record m { calls = at_place m.calls c (put_call (entered k request)) }) (refusal_in a) refl)
   standing_after (Step c w o found a) allowed =

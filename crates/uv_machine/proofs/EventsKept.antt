@@ -32,7 +32,7 @@ use Rattle.uv_machine.specs.Outside.{MayAnswer}
 use Rattle.uv_machine.specs.Histories as histories
 use Rattle.uv_machine.specs.Histories.{Allowed, after, state_of, IsLegal}
 use Rattle.uv_machine.specs.Accounts.{one_if}
-use Rattle.uv_machine.specs.Events.{is_event, is_act, takes_event, taken_from, taken_in, dissociates, EventsCount}
+use Rattle.uv_machine.specs.Events.{is_event, is_act_word, takes_event, taken_from, taken_in, dissociates, EventsCount}
 use Rattle.uv_machine.proofs.Members as members
 use Rattle.uv_machine.proofs.Members.{slice_get-at_place_elsewhere, count_by-cons}
 use Rattle.uv_machine.proofs.Planned.{InPlan, IsClosing, next_word-planned, next_word-closing}
@@ -159,11 +159,11 @@ module _ (m : State) (g f : ℕ) (change : File → File) (n d : ℕ) (k : Told 
 
 -- Steps.
 
-never_act : (w : Word) (b : Bool) → is_act w ≡ false → (is_act w && b) ≡ false
+never_act : (w : Word) (b : Bool) → is_act_word w ≡ false → (is_act_word w && b) ≡ false
 never_act w b e = ap (λ v. v && b) e
 
-never_event : (w : Word) (a : Answer) (b : Bool) → is_event a ≡ false → (is_act w && (is_event a && b)) ≡ false
-never_event w a b e = ap (λ v. is_act w && (v && b)) e ∙ and_none (is_act w)
+never_event : (w : Word) (a : Answer) (b : Bool) → is_event a ≡ false → (is_act_word w && (is_event a && b)) ≡ false
+never_event w a b e = ap (λ v. is_act_word w && (v && b)) e ∙ and_none (is_act_word w)
   where
     and_none : (b : Bool) → (b && false) ≡ false
     and_none true = refl
@@ -187,23 +187,23 @@ has_one_by false p e = absurd (none_by (is_dissociated p) e)
 
 module _ (m : State) (c f n d : ℕ) (w : Word) (o : ℕ) (found : Option QpState) (a : Answer) (k : Told n d (slice_get m.files f)) where
   abbrev Behind : State → InFlight → Type 0
-  Behind m' call = Told (n + one_if (is_act w && (is_event a && is_call_on f (Some call)))) (d + 0) (slice_get m'.files f)
+  Behind m' call = Told (n + one_if (is_act_word w && (is_event a && is_call_on f (Some call)))) (d + 0) (slice_get m'.files f)
 
-  quiet_step : (m' v : State) (call : InFlight) → m' ≡ v → v.files ≡ m.files → (is_act w && (is_event a && is_call_on f (Some call))) ≡ false → Behind m' call
+  quiet_step : (m' v : State) (call : InFlight) → m' ≡ v → v.files ≡ m.files → (is_act_word w && (is_event a && is_call_on f (Some call))) ≡ false → Behind m' call
   quiet_step m' v call e files none = told_same n d _ (slice_get m.files f) (slice_get m'.files f) none (ap (λ (s : State). slice_get s.files f) e ∙ ap (λ x. slice_get x f) files) k
 
-  planned : (call : InFlight) (v : Word) → next_word call ≡ w → InPlan call v → is_act v ≡ false → (is_act w && (is_event a && is_call_on f (Some call))) ≡ false
-  planned call v is plan never = never_act w _ (ap is_act (sym is ∙ next_word-planned call v plan.fine plan.planned) ∙ never)
+  planned : (call : InFlight) (v : Word) → next_word call ≡ w → InPlan call v → is_act_word v ≡ false → (is_act_word w && (is_event a && is_call_on f (Some call))) ≡ false
+  planned call v is plan never = never_act w _ (ap is_act_word (sym is ∙ next_word-planned call v plan.fine plan.planned) ∙ never)
 
-  closes : (call : InFlight) (v : Word) → next_word call ≡ w → IsClosing call → closing call ≡ v → is_act v ≡ false → (is_act w && (is_event a && is_call_on f (Some call))) ≡ false
-  closes call v is ends e never = never_act w _ (ap is_act (sym is ∙ next_word-closing call ends ∙ e) ∙ never)
+  closes : (call : InFlight) (v : Word) → next_word call ≡ w → IsClosing call → closing call ≡ v → is_act_word v ≡ false → (is_act_word w && (is_event a && is_call_on f (Some call))) ≡ false
+  closes call v is ends e never = never_act w _ (ap is_act_word (sym is ∙ next_word-closing call ends ∙ e) ∙ never)
 
   async_step : (call : InFlight) (m' : State) → m' ≡ act m c call a Async → event_refusal (has_event m call.file) (phase_of m call.file) ≡ None → next_word call ≡ w → InPlan call word.Act → a ≡ answer.Event → Behind m' call
   async_step call m' gives fine is plan answers =
       let said : w ≡ word.Act = sym is ∙ next_word-planned call word.Act plan.fine plan.planned in
       let files : slice_get m'.files f ≡ slice_get (at_place m.files call.file event_taken) f = ap (λ (s : State). slice_get s.files f) gives in
-      let takes : (is_act w && (is_event a && is_call_on f (Some call))) ≡ (call.file == f) = ap (λ v. is_act v && (is_event a && (call.file == f))) said ∙ ap (λ v. is_event v && (call.file == f)) answers in
-      let P : Option File → Type 0 = λ v. Told (n + one_if (is_act w && (is_event a && is_call_on f (Some call)))) (d + 0) v in
+      let takes : (is_act_word w && (is_event a && is_call_on f (Some call))) ≡ (call.file == f) = ap (λ v. is_act_word v && (is_event a && (call.file == f))) said ∙ ap (λ v. is_event v && (call.file == f)) answers in
+      let P : Option File → Type 0 = λ v. Told (n + one_if (is_act_word w && (is_event a && is_call_on f (Some call)))) (d + 0) v in
       let Q : Bool → Type 0 = λ v. Told (n + one_if v) (d + 0) (slice_get (at_place m.files call.file event_taken) f) in
       subst P (sym files) (subst Q (sym takes)
       (⊎_elim
@@ -266,7 +266,7 @@ told_after m f n d (Enter c g request a) allowed k =
     told_unless m _ f n d (refusal_in a) k (λ fine. told_plain n d (slice_get m.files f) (slice_get m.files f) refl k)
 told_after m f n d (Step c w o found a) allowed k =
     let t = IsTurn-allowed m c w o found a allowed in
-    let P : Option InFlight → Type 0 = λ v. Told (n + one_if (is_act w && (is_event a && is_call_on f v))) (d + 0) (slice_get (after m (Step c w o found a)).files f) in
+    let P : Option InFlight → Type 0 = λ v. Told (n + one_if (is_act_word w && (is_event a && is_call_on f v))) (d + 0) (slice_get (after m (Step c w o found a)).files f) in
     subst P (sym t.is) (told_turn m c f n d w o found a k t.call (after m (Step c w o found a)) t.word t.turn)
 told_after m f n d (Unplug v) allowed k = told_plain n d (slice_get m.files f) (slice_get m.files f) refl k
 told_after m f n d (Tear g by) allowed k =

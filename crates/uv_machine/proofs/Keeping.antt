@@ -1,4 +1,5 @@
 -- What a turn leaves of what calls hold.
+use Rattle.uv_machine.specs.Accounts.{count_of}
 use Rattle.std.proofs.Common.{◌≡◌, ◌≢◌, ℕ, zero, suc, ◌+◌, ◌<◌, ◌≤◌, Bool, true, false, List, [], ◌∷◌, Option, Some, None, length, map, refl, ap, sym, ◌∙◌, subst, arith, inl, inr, ◌⊎◌, ⊎_elim}
 use Rattle.std.specs.Prelude.{not, ◌==◌, slice_get, unwrap_or, find, if◌then◌else◌}
 use Rattle.std.proofs.lemmas.Option.{none-some, same_Some}
@@ -25,12 +26,12 @@ use Rattle.uv_machine.specs.declared.object.Phase.TheVariants as phase
 use Rattle.uv_machine.specs.declared.call.InFlight.{InFlight}
 use Rattle.uv_machine.specs.declared.state.State.{State}
 use Rattle.uv_machine.specs.Objects.{is_kind, has_id, is_made, is_live, is_doomed, is_husk, in_file, has_handle, is_published_at, on_object}
-use Rattle.uv_machine.specs.Plans.{next_word, own_object, acted_on, looks_at, locks, look_ask, is_number, with_refusal, with_number, with_look, with_made, with_outcome, with_lock, without_lock, without_number, without_look, moved_on}
+use Rattle.uv_machine.specs.Plans.{next_word, own_object, acted_on, looks_at, locks, look_ask, is_the_number, with_refusal, with_number, with_look, with_made, with_outcome, with_lock, without_lock, without_number, without_look, moved_on}
 use Rattle.uv_machine.specs.States.{call_of, published, is_excluded, is_unplugged, device_of, phase_of, is_quiet, is_tearing}
-use Rattle.uv_machine.specs.Outside.{is_swept}
+use Rattle.uv_machine.specs.Outside.{may_sweep}
 use Rattle.uv_machine.specs.Steps.{look_told, look_found, look_try}
 use Rattle.uv_machine.specs.Effects.{with_new, next_id, made_outcome, act, not_with_id, binding_of}
-use Rattle.uv_machine.specs.Reached.{IsIn, is_early, Suits, AllSuit, HoldsWell, Reached, count_of, look_count}
+use Rattle.uv_machine.specs.Reached.{IsIn, is_early, Suits, AllSuit, HoldsWell, Reached, look_count}
 use Rattle.uv_machine.proofs.Members.{IsIn-map, Passes-find, Passes-filter}
 use Rattle.uv_machine.proofs.Planned.{InPlan, stands_in_plan, looks_few, next_place-in_plan}
 use Rattle.uv_machine.proofs.Turns.{Turn, Made, Locked, object_made}
@@ -128,8 +129,8 @@ locked_by : (l : Option ℕ) → count_of l ≡ 1 → l ≡ Some (unwrap_or l NO
 locked_by None e = absurd cc
 locked_by (Some o) e = refl
 
-pub locks_it : (o : ℕ) (l : Option ℕ) → l ≡ Some o → is_number o l ≡ true
-locks_it o l e = ap (is_number o) e ∙ eq-eqb o o refl
+pub locks_it : (o : ℕ) (l : Option ℕ) → l ≡ Some o → is_the_number o l ≡ true
+locks_it o l e = ap (is_the_number o) e ∙ eq-eqb o o refl
 
 -- an object that a call holds exclusively is excluded
 pub excluded_by : (m : State) (b : ℕ) (k : InFlight) (o : ℕ) → call_of m b ≡ Some k → k.locked ≡ Some o → is_excluded m o ≡ true
@@ -137,7 +138,7 @@ excluded_by m b k o is locked = any_at (locks o) m.calls b (Some k) (call_stands
 
 module _ (m : State) (r : Reached m) (c : ℕ) (call : InFlight) (is : call_of m c ≡ Some call) where
   -- what is being swept has no calls
-  pub not_swept : (f : ℕ) → call.file ≡ f → is_swept m f ≡ true → ⊥
+  pub not_swept : (f : ℕ) → call.file ≡ f → may_sweep m f ≡ true → ⊥
   not_swept f same swept = quiet_none m c f call (and_parts (is_tearing (phase_of m f)) (is_quiet m f) swept).1 is same
 
   pub looks_at_live : (f : IsFound m call) → is_live f.item.phase ≡ true
@@ -314,7 +315,7 @@ module _ (m : State) (r : Reached m) (c : ℕ) (call : InFlight) (is : call_of m
       let apart : (o : ℕ) → looks_at o k ≡ true → call.locked ≡ Some o → ⊥ =
       λ o h locked. (
       let none = r.alone c b call k o is is' ne locked in
-      let parts = or_parts (is_number o k.locked) (looks_at o k) none in
+      let parts = or_parts (is_the_number o k.locked) (looks_at o k) none in
       let no = parts.1 in
       cc) in
       record {

@@ -19,7 +19,7 @@ use Rattle.uv_machine.specs.declared.object.Change.{Change}
 use Rattle.uv_machine.specs.declared.object.Change.TheVariants.{ToLive, ToDoomed, ToHusk, ToBound}
 use Rattle.uv_machine.specs.declared.call.InFlight.{InFlight}
 use Rattle.uv_machine.specs.declared.state.State.{State}
-use Rattle.uv_machine.specs.Objects.{has_id, is_made, doomed_from, live_from, changed, on_object}
+use Rattle.uv_machine.specs.Objects.{has_id, is_made, doomed_from, live_from, with_change, on_object}
 use Rattle.uv_machine.specs.Plans.{next_word, own_object, acted_on, looks_at, holds, with_refusal, with_number, with_look, with_made, with_outcome, with_lock, without_lock, without_number, without_look, moved_on}
 use Rattle.uv_machine.specs.States.{call_of}
 use Rattle.uv_machine.specs.Effects.{act, binding_of, made_outcome, not_with_id}
@@ -59,7 +59,7 @@ doomed_ending phase.Live e = absurd cc
 doomed_ending phase.Doomed e = refl
 doomed_ending phase.Husk e = refl
 
-changed_ending : (b : Bool) (change : Change) (x : Object) → is_ending x.phase ≡ true → is_ending (if b then changed change x else x).phase ≡ true
+changed_ending : (b : Bool) (change : Change) (x : Object) → is_ending x.phase ≡ true → is_ending (if b then with_change change x else x).phase ≡ true
 changed_ending true ToLive x e = live_ending x.phase e
 changed_ending true ToDoomed x e = doomed_ending x.phase e
 changed_ending true ToHusk x e = refl
@@ -73,7 +73,7 @@ unmade_ending phase.Live e = refl
 unmade_ending phase.Doomed e = refl
 unmade_ending phase.Husk e = refl
 
-here_ending : (b : Bool) (x : Object) → b ≡ true → is_made x.phase ≡ false → is_ending (if b then changed ToDoomed x else x).phase ≡ true
+here_ending : (b : Bool) (x : Object) → b ≡ true → is_made x.phase ≡ false → is_ending (if b then with_change ToDoomed x else x).phase ≡ true
 here_ending true x e made = unmade_ending x.phase made
 here_ending false x e made = absurd cc
 

@@ -27,7 +27,7 @@ use Rattle.uv_machine.specs.declared.object.Phase.{Phase}
 use Rattle.uv_machine.specs.declared.object.Phase.TheVariants as phase
 use Rattle.uv_machine.specs.declared.call.InFlight.{InFlight}
 use Rattle.uv_machine.specs.declared.state.State.{State}
-use Rattle.uv_machine.specs.Objects.{is_live, is_husk, live_from, doomed_from, changed, domain_of}
+use Rattle.uv_machine.specs.Objects.{is_live, is_husk, live_from, doomed_from, with_change, domain_of}
 use Rattle.uv_machine.specs.Acts.{may_bind, lets_bind, has_range}
 use Rattle.uv_machine.specs.Requests.{access_in, length_in}
 use Rattle.uv_num.specs.declared.access.TheConstants.{ACCESS_LOCAL_WRITE, ACCESS_REMOTE_WRITE, ACCESS_MW_BIND}
@@ -339,7 +339,7 @@ module _ (made : List Object) (m : State) (known : Known made m) where
   stands_as : (x y : Object) → x ≡ y → StandsWell made y → StandsWell made x
   stands_as x y e s = let P : Object → Type 0 = λ v. StandsWell made v in subst P (sym e) s
 
-  live_stands : (x : Object) → StandsWell made x → StandsWell made (changed ToLive x)
+  live_stands : (x : Object) → StandsWell made x → StandsWell made (with_change ToLive x)
   live_stands x s =
       let a = s.made_so in
       record {
@@ -353,7 +353,7 @@ module _ (made : List Object) (m : State) (known : Known made m) where
         husk = λ e. s.husk (live_husk x.phase e);
       }
 
-  doomed_stands : (x : Object) → StandsWell made x → StandsWell made (changed ToDoomed x)
+  doomed_stands : (x : Object) → StandsWell made x → StandsWell made (with_change ToDoomed x)
   doomed_stands x s =
       let a = s.made_so in
       record {
@@ -367,7 +367,7 @@ module _ (made : List Object) (m : State) (known : Known made m) where
         husk = λ e. s.husk (doomed_husk x.phase e);
       }
 
-  husk_stands : (x : Object) → StandsWell made x → StandsWell made (changed ToHusk x)
+  husk_stands : (x : Object) → StandsWell made x → StandsWell made (with_change ToHusk x)
   husk_stands x s =
       let a = s.made_so in
       record {
@@ -382,7 +382,7 @@ module _ (made : List Object) (m : State) (known : Known made m) where
       }
 
   -- the region that a bind gives a window
-  lent : (x : Object) (b : Binding) (k : IsIn x m.objects) → x.kind ≡ Mw → is_live x.phase ≡ true → Lends m x b → RegionMade made (changed (ToBound (Some b)) x) b
+  lent : (x : Object) (b : Binding) (k : IsIn x m.objects) → x.kind ≡ Mw → is_live x.phase ≡ true → Lends m x b → RegionMade made (with_change (ToBound (Some b)) x) b
   lent x b k window live l =
       let d = uses_domain x k window (live_no_husk x.phase live) in
       let g = known.stands l.region l.within in
@@ -390,8 +390,8 @@ module _ (made : List Object) (m : State) (known : Known made m) where
       let none : l.region.binding ≡ None = unbound l.region g l.kind in
       let uses : ids_of l.region.uses ≡ ids_of a.item.uses =
       a.uses (live_no_husk l.region.phase l.live) ∙ ap (λ v. ids_of a.item.uses ++ bound_to v) none ∙ append-nil (ids_of a.item.uses) in
-      let now : ids_of (changed (ToBound (Some b)) x).uses ≡ d.domain ∷ b.region ∷ [] = ap (λ v. ids_of (ids_and v b.region)) (first_is x.uses d.domain (bound_to x.binding) d.now) in
-      let domain : domain_of (changed (ToBound (Some b)) x) ≡ domain_of x =
+      let now : ids_of (with_change (ToBound (Some b)) x).uses ≡ d.domain ∷ b.region ∷ [] = ap (λ v. ids_of (ids_and v b.region)) (first_is x.uses d.domain (bound_to x.binding) d.now) in
+      let domain : domain_of (with_change (ToBound (Some b)) x) ≡ domain_of x =
       ap (λ v. unwrap_or (slice_get v 0) NONE) now ∙ ap (λ v. unwrap_or (slice_get v 0) NONE) (sym d.now) in
       record {
         window = window;
@@ -399,10 +399,10 @@ module _ (made : List Object) (m : State) (known : Known made m) where
         there = ap (slice_get made) (sym l.id) ∙ a.there;
         kind = sym a.same.kind ∙ l.kind;
         same = sym a.same.file ∙ l.same;
-        may = may_as (changed (ToBound (Some b)) x) x a.item l.region b domain (sym (domain_by l.region a.item uses)) (sym a.same.request) ∙ l.may;
+        may = may_as (with_change (ToBound (Some b)) x) x a.item l.region b domain (sym (domain_by l.region a.item uses)) (sym a.same.request) ∙ l.may;
       }
 
-  bound_stands : (x : Object) (b : Binding) (k : IsIn x m.objects) → x.kind ≡ Mw → is_live x.phase ≡ true → Lends m x b → StandsWell made (changed (ToBound (Some b)) x)
+  bound_stands : (x : Object) (b : Binding) (k : IsIn x m.objects) → x.kind ≡ Mw → is_live x.phase ≡ true → Lends m x b → StandsWell made (with_change (ToBound (Some b)) x)
   bound_stands x b k window live l =
       let d = uses_domain x k window (live_no_husk x.phase live) in
       let a = (known.stands x k).made_so in
@@ -413,11 +413,11 @@ module _ (made : List Object) (m : State) (known : Known made m) where
           same = record { id = a.same.id; kind = a.same.kind; file = a.same.file; handle = a.same.handle; request = a.same.request; index = a.same.index; generation = a.same.generation };
           uses = λ e. ap (λ v. ids_of (ids_and v b.region)) (first_is x.uses d.domain (bound_to x.binding) d.now) ∙ ap (λ v. v ++ b.region ∷ []) (sym d.first);
         };
-        bound = λ b' e. (let P : Binding → Type 0 = λ v. RegionMade made (changed (ToBound (Some b)) x) v in subst P (same_Some b b' e) (lent x b k window live l));
+        bound = λ b' e. (let P : Binding → Type 0 = λ v. RegionMade made (with_change (ToBound (Some b)) x) v in subst P (same_Some b b' e) (lent x b k window live l));
         husk = λ e. absurd (let never = live_no_husk x.phase live in cc);
       }
 
-  unbound_stands : (x : Object) (k : IsIn x m.objects) → x.kind ≡ Mw → is_live x.phase ≡ true → StandsWell made (changed (ToBound None) x)
+  unbound_stands : (x : Object) (k : IsIn x m.objects) → x.kind ≡ Mw → is_live x.phase ≡ true → StandsWell made (with_change (ToBound None) x)
   unbound_stands x k window live =
       let d = uses_domain x k window (live_no_husk x.phase live) in
       let a = (known.stands x k).made_so in
@@ -434,11 +434,11 @@ module _ (made : List Object) (m : State) (known : Known made m) where
 
   stands_on : (m' : State) → Reached m' → m'.made ≡ m.made → (y : Object) → IsIn y m'.objects → Comes m y → StandsWell made y
   stands_on m' r' same y h (Comes.Stays k) = known.stands y k
-  stands_on m' r' same y h (Comes.ToLives x k e) = stands_as y (changed ToLive x) e (live_stands x (known.stands x k))
-  stands_on m' r' same y h (Comes.Dooms x k e) = stands_as y (changed ToDoomed x) e (doomed_stands x (known.stands x k))
-  stands_on m' r' same y h (Comes.Husks x k doomed e) = stands_as y (changed ToHusk x) e (husk_stands x (known.stands x k))
-  stands_on m' r' same y h (Comes.Binds x b k window live l e) = stands_as y (changed (ToBound (Some b)) x) e (bound_stands x b k window live l)
-  stands_on m' r' same y h (Comes.Unbinds x k window live e) = stands_as y (changed (ToBound None) x) e (unbound_stands x k window live)
+  stands_on m' r' same y h (Comes.ToLives x k e) = stands_as y (with_change ToLive x) e (live_stands x (known.stands x k))
+  stands_on m' r' same y h (Comes.Dooms x k e) = stands_as y (with_change ToDoomed x) e (doomed_stands x (known.stands x k))
+  stands_on m' r' same y h (Comes.Husks x k doomed e) = stands_as y (with_change ToHusk x) e (husk_stands x (known.stands x k))
+  stands_on m' r' same y h (Comes.Binds x b k window live l e) = stands_as y (with_change (ToBound (Some b)) x) e (bound_stands x b k window live l)
+  stands_on m' r' same y h (Comes.Unbinds x k window live e) = stands_as y (with_change (ToBound None) x) e (unbound_stands x k window live)
   stands_on m' r' same y h (Comes.IsNew b) =
       let id : y.id ≡ m.made = ap (λ (v : Object). v.id) b.gives in
       let low = id_below m' r' y h in

@@ -1,5 +1,6 @@
 -- In a state that a legal history leads to, each handle number of a file is one object's or set aside for one call at most.
 -- So an accepted Make finds room in a list of as many objects as there are handles.
+use Rattle.uv_machine.specs.Accounts.{count_of}
 use Rattle.std.proofs.Common.{◌≡◌, ℕ, zero, suc, ◌+◌, ◌*◌, ◌/◌, ◌%◌, ◌<◌, ◌≤◌, Bool, true, false, List, [], ◌∷◌, ◌++◌, Option, Some, None, length, map, replicate, refl, ap, sym, ◌∙◌, subst, arith, inl, inr}
 use Rattle.std.specs.Prelude.{◌&&◌, ◌==◌, nat_lt, slice_get, filter, option_map, unwrap_or, is_some, count_by, if◌then◌else◌}
 use Rattle.std.specs.List.{AllByRecursion, list_any}
@@ -25,13 +26,13 @@ use Rattle.uv_machine.specs.declared.object.Change.{Change}
 use Rattle.uv_machine.specs.declared.object.Change.TheVariants.{ToLive, ToDoomed, ToHusk, ToBound}
 use Rattle.uv_machine.specs.declared.call.InFlight.{InFlight}
 use Rattle.uv_machine.specs.declared.state.State.{State}
-use Rattle.uv_machine.specs.Objects.{has_id, in_file, has_handle, changed, on_object}
-use Rattle.uv_machine.specs.Plans.{own_object, acted_on, is_number, reserves, with_refusal, with_number, with_look, with_made, with_outcome, with_lock, without_lock, without_number, without_look, moved_on, entered}
+use Rattle.uv_machine.specs.Objects.{has_id, in_file, has_handle, with_change, on_object}
+use Rattle.uv_machine.specs.Plans.{own_object, acted_on, is_the_number, reserves, with_refusal, with_number, with_look, with_made, with_outcome, with_lock, without_lock, without_number, without_look, moved_on, entered}
 use Rattle.uv_machine.specs.States.{call_of, object_with, is_taken, least_from, least_free, start}
 use Rattle.uv_machine.specs.Effects.{refusal_in, made_outcome, binding_of, act, finish, with_room_for, not_with_id, put_call, no_call, gone_from, not_in_file, unless_answered}
 use Rattle.uv_machine.specs.Histories.{Allowed, after, state_from, state_of, IsLegalFrom, IsLegal}
 use Rattle.uv_machine.specs.Laws.{MakeHasRoom, HasRoom, LegalIsBounded}
-use Rattle.uv_machine.specs.Reached.{IsIn, Reached, count_of}
+use Rattle.uv_machine.specs.Reached.{IsIn, Reached}
 use Rattle.uv_machine.proofs.Sums.{one, one_le, one_none, one_most, same_one, worth, sum_by-at_place_worth, sum_by-filter-le, sum_by-map-le, sum_by-item, each_item, each_at, each-at_place, each-map, each-filter, each-push, each-replicate, count_by-replicate-none, count_by-none, has_key, length_below, sum_by-le-each, each_weaken}
 use Rattle.uv_machine.proofs.Members.{list_any-none}
 use Rattle.uv_machine.proofs.Planned.{InPlan, in_plan, stands_in_plan, looks_few}
@@ -103,14 +104,14 @@ pub numbered_filter : (p : Object → Bool) (objects : List Object) (calls : Lis
 numbered_filter p objects calls numbered =
     numbered_objects objects (filter p objects) calls numbered (λ f n. sum_by-filter-le (λ x. one (has_handle f n x)) p objects) (each-filter HasPlace p objects numbered.places)
 
-changed_handle : (b : Bool) (change : Change) (f n : ℕ) (x : Object) → has_handle f n (if b then changed change x else x) ≡ has_handle f n x
+changed_handle : (b : Bool) (change : Change) (f n : ℕ) (x : Object) → has_handle f n (if b then with_change change x else x) ≡ has_handle f n x
 changed_handle true ToLive f n x = refl
 changed_handle true ToDoomed f n x = refl
 changed_handle true ToHusk f n x = refl
 changed_handle true (ToBound binding) f n x = refl
 changed_handle false change f n x = refl
 
-changed_place : (b : Bool) (change : Change) (x : Object) → HasPlace x → HasPlace (if b then changed change x else x)
+changed_place : (b : Bool) (change : Change) (x : Object) → HasPlace x → HasPlace (if b then with_change change x else x)
 changed_place true ToLive x has = has
 changed_place true ToDoomed x has = has
 changed_place true ToHusk x has = has
@@ -170,7 +171,7 @@ reserve_numbered m c call k numbered stands fits free =
 
 -- an object takes the number of its call
 
-made_handle : (v : Option ℕ) (n : ℕ) → is_some v ≡ true → (unwrap_or v NONE == n) ≡ is_number n v
+made_handle : (v : Option ℕ) (n : ℕ) → is_some v ≡ true → (unwrap_or v NONE == n) ≡ is_the_number n v
 made_handle None n e = cc
 made_handle (Some k) n e = refl
 
@@ -210,7 +211,7 @@ room_beside : (m : State) (c : ℕ) (call : InFlight) (number : Option ℕ) → 
 room_beside m c call None numbered stands on is some below = absurd cc
 room_beside m c call (Some n) numbered stands on is some below =
     let f = call.file in
-    let reserved : reserves f n (Some call) ≡ true = and_from (f == f) (is_number n call.reserved) (eq-eqb f f refl) (ap (is_number n) is ∙ eq-eqb n n refl) in
+    let reserved : reserves f n (Some call) ≡ true = and_from (f == f) (is_the_number n call.reserved) (eq-eqb f f refl) (ap (is_the_number n) is ∙ eq-eqb n n refl) in
     let own = sum_by-item (λ s. one (reserves f n s)) m.calls c (Some call) stands in
     let value : one (reserves f n (Some call)) ≡ 1 = ap one reserved in
     let counts = key_count m.objects f n (f * HANDLES + n) below refl numbered.places in
@@ -267,7 +268,7 @@ ended call f n is = absurd cc
 same_numbered : (objects : List Object) (calls : List (Option InFlight)) (c : ℕ) (g : InFlight → InFlight) (call : InFlight) → IsNumbered objects calls → slice_get calls c ≡ Some (Some call) → CallFits call → (g call).file ≡ call.file → (g call).reserved ≡ call.reserved → IsNumbered objects (at_place calls c (option_map g))
 same_numbered objects calls c g call numbered stands fits file reserved =
     numbered_call objects calls c (option_map g) call numbered stands
-    (λ f n is. (let same : reserves f n (Some (g call)) ≡ reserves f n (Some call) = ap (λ v. (v == f) && is_number n (g call).reserved) file ∙ ap (λ v. (call.file == f) && is_number n v) reserved in sym same ∙ is))
+    (λ f n is. (let same : reserves f n (Some (g call)) ≡ reserves f n (Some call) = ap (λ v. (v == f) && is_the_number n (g call).reserved) file ∙ ap (λ v. (call.file == f) && is_the_number n v) reserved in sym same ∙ is))
     (record { on = rw file fits.on; number = rw reserved fits.number })
 
 act_numbered : (m : State) (c : ℕ) (call : InFlight) (a : Answer) (what : request.Act) → Numbered m → slice_get m.calls c ≡ Some (Some call) → CallFits call → Numbered (act m c call a what)

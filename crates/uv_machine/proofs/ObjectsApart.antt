@@ -16,7 +16,7 @@ use Rattle.uv_machine.specs.declared.object.Change.{Change}
 use Rattle.uv_machine.specs.declared.object.Change.TheVariants.{ToLive, ToDoomed, ToHusk, ToBound}
 use Rattle.uv_machine.specs.declared.call.InFlight.{InFlight}
 use Rattle.uv_machine.specs.declared.state.State.{State}
-use Rattle.uv_machine.specs.Objects.{has_id, changed, on_object}
+use Rattle.uv_machine.specs.Objects.{has_id, with_change, on_object}
 use Rattle.uv_machine.specs.Plans.{next_word, own_object, acted_on}
 use Rattle.uv_machine.specs.States.{object_with}
 use Rattle.uv_machine.specs.Steps.{told, act_told}
@@ -34,7 +34,7 @@ use Rattle.uv_machine.proofs.Owning.{into_filter, with_room_by}
 apart_map : (objects : List Object) (x : Object) (o : ℕ) (change : Change) → IsIn x objects → (o == x.id) ≡ false → IsIn x (map (on_object o change) objects)
 apart_map objects x o change k apart =
     let ne : has_id o x ≡ false = ne_eqb x.id o (λ e. eqb-false o x.id apart (sym e)) in
-    let same : on_object o change x ≡ x = ap (λ b. if b then changed change x else x) ne in
+    let same : on_object o change x ≡ x = ap (λ b. if b then with_change change x else x) ne in
     let P : Object → Type 0 = λ v. IsIn v (map (on_object o change) objects) in
     subst P same (IsIn-into_map (on_object o change) x objects k)
 

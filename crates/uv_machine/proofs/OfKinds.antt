@@ -30,7 +30,7 @@ use Rattle.uv_machine.specs.Accounts.{one_if, makes_ahead, making_comes, call_ma
 use Rattle.uv_machine.specs.Effects.{refusal_in, with_file, opened, act, binding_of, not_with_id, not_in_file, gone_from, unless_answered, put_call}
 use Rattle.uv_machine.specs.Files.{if_doomed_by, if_doomed, released_step, released_by, is_of_kind, kind_releases_from, creates_kind, enters_for, ReleasesBelowEnters}
 use Rattle.uv_machine.specs.Histories.{Allowed, after, IsLegalFrom, state_from}
-use Rattle.uv_machine.specs.Objects.{has_id, is_kind, is_doomed, is_husk, live_from, doomed_from, changed, on_object}
+use Rattle.uv_machine.specs.Objects.{has_id, is_kind, is_doomed, is_husk, live_from, doomed_from, with_change, on_object}
 use Rattle.uv_machine.specs.Plans.{next_word, own_object, acted_on, entered}
 use Rattle.uv_machine.specs.Reached.{IsIn, Reached}
 use Rattle.uv_machine.specs.States.{object_with, start}
@@ -284,7 +284,7 @@ module _ (kind : Kind) where
       let objects : count_by (of_kind kind) (gone_from m o (object_with m o)).objects ≡ count_by (of_kind kind) (map (on_object o ToHusk) m.objects) = ap (λ slot. count_by (of_kind kind) (gone_from m o slot).objects) t.is in
       let calls : sum_by (kind_makes kind) (gone_from m o (object_with m o)).calls ≡ sum_by (kind_makes kind) m.calls = ap (λ slot. sum_by (kind_makes kind) (gone_from m o slot).calls) t.is in
       let one : one_if (is_of_kind kind (object_with m o)) ≡ one_if (is_kind x.kind kind) = ap (λ slot. one_if (is_of_kind kind slot)) t.is in
-      let none : one_if (of_kind kind (changed ToHusk x)) ≡ 0 = ap one_if (and_no (is_kind x.kind kind)) in
+      let none : one_if (of_kind kind (with_change ToHusk x)) ≡ 0 = ap one_if (and_no (is_kind x.kind kind)) in
       omega (arith, objects, calls, one, none, of_doomed x t.phase, count_changed (of_kind kind) o ToHusk 0 m.made m.objects x r.graph.rising t.within t.id)
 
   count_after : (m : State) (e : Entry) → Reached m → Allowed m e → kind_counts (after m e) kind + one_if (is_of_kind kind (released_by m e)) ≤ kind_counts m kind + one_if (enters_for kind e)

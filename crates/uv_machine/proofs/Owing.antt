@@ -27,14 +27,14 @@ use Rattle.uv_machine.specs.declared.file.FilePhase.TheVariants as file
 use Rattle.uv_machine.specs.declared.file.File.{File}
 use Rattle.uv_machine.specs.declared.call.InFlight.{InFlight}
 use Rattle.uv_machine.specs.declared.state.State.{State}
-use Rattle.uv_machine.specs.Objects.{has_id, in_file, is_live, is_doomed, live_from, doomed_from, changed, on_object}
+use Rattle.uv_machine.specs.Objects.{has_id, in_file, is_live, is_doomed, live_from, doomed_from, with_change, on_object}
 use Rattle.uv_machine.specs.Plans.{plan_for, next_word, own_object, entered, with_refusal, with_number, with_look, with_made, with_outcome, with_lock, without_lock, without_number, without_look, moved_on}
 use Rattle.uv_machine.specs.States.{call_of, object_with, phase_in, phase_of, device_of, is_open, is_callable, is_removing, is_closing, is_unplugged, is_quiet, has_users, has_doomed, has_standing, can_go, newest_free}
 use Rattle.uv_machine.specs.Effects.{refusal_in, with_call, with_file, with_object, with_burial, without_object, not_with_id, binding_of, act, event_taken, buried_if_doomed, opened, in_phase, put_call, gone_from, not_in_file, unless_answered, without_plug, dissociated}
-use Rattle.uv_machine.specs.Outside.{may_kill, may_kill_object, is_object, is_swept, may_go_object}
+use Rattle.uv_machine.specs.Outside.{may_kill, may_kill_object, is_object, may_sweep, may_go_object}
 use Rattle.uv_machine.specs.Histories.{Allowed, after}
 use Rattle.uv_machine.specs.Laws.{makes_object}
-use Rattle.uv_machine.specs.Accounts.{is_make, steps_ahead, makes_ahead, new_object_owes, making_owes, call_owes, phase_owes, object_owes, file_phase_owes, file_owes, device_owes, owed, costs, unless_refused_costs, one_if, making_comes, call_makes, coming, brings, unless_refused_makes}
+use Rattle.uv_machine.specs.Accounts.{is_make, steps_ahead, makes_ahead, new_object_owes, making_owes, call_owes, phase_owes, object_owes, file_phase_owes, file_owes, one_if, owed, costs, unless_refused_costs, making_comes, call_makes, coming, brings, unless_refused_makes}
 use Rattle.uv_machine.proofs.Sums.{worth, sum_by-at_place_worth, sum_by-filter-le, sum_by-map-le, each_item, sum_by-map-falls, find_passes, find_among, find_among_reverse}
 use Rattle.uv_machine.proofs.Planned.{InPlan, IsClosing, next_word-planned, next_word-closing}
 use Rattle.uv_machine.proofs.Turns.{Turn, object_made, IsTurn, IsTurn-allowed}
@@ -128,8 +128,8 @@ calls_sum f m m' c call g calls is =
     let stands = call_stands m c call is in
     let here : worth f (slice_get m.calls c) ≡ f (Some call) = ap (worth f) stands in
     let there : worth f (option_map g (slice_get m.calls c)) ≡ f (g (Some call)) = ap (λ v. worth f (option_map g v)) stands in
-    let changed : sum_by f m'.calls ≡ sum_by f (at_place m.calls c g) = ap (sum_by f) calls in
-    omega (arith, sum_by-at_place_worth f g m.calls c, here, there, changed)
+    let with_change : sum_by f m'.calls ≡ sum_by f (at_place m.calls c g) = ap (sum_by f) calls in
+    omega (arith, sum_by-at_place_worth f g m.calls c, here, there, with_change)
 
 -- Objects.
 
@@ -145,7 +145,7 @@ live_phase_owes phase.Live = omega arith
 live_phase_owes phase.Doomed = omega arith
 live_phase_owes phase.Husk = omega arith
 
-changed_owes : (b : Bool) (change : Change) (x : Object) → object_owes (if b then changed change x else x) ≤ object_owes x
+changed_owes : (b : Bool) (change : Change) (x : Object) → object_owes (if b then with_change change x else x) ≤ object_owes x
 changed_owes true ToLive x = live_phase_owes x.phase
 changed_owes true ToDoomed x = doomed_phase_owes x.phase
 changed_owes true ToHusk x = omega arith
@@ -165,7 +165,7 @@ room_owes false x objects two = omega arith
 -- What a turn leaves of devices, files and objects.
 
 pub record RestOwes (m m' : State) (more : ℕ) : Type 0 where
-  pub devices : sum_by device_owes m'.plugged ≤ sum_by device_owes m.plugged
+  pub devices : sum_by one_if m'.plugged ≤ sum_by one_if m.plugged
   pub files : sum_by file_owes m'.files ≤ sum_by file_owes m.files
   pub objects : sum_by object_owes m'.objects ≤ sum_by object_owes m.objects + more
 
@@ -289,12 +289,12 @@ entered_worth call None = omega arith
 entered_worth call (Some inner) = omega arith
 
 -- a device that is pulled was plugged in
-plug_worth : (slot : Option Bool) → not (unwrap_or slot false) ≡ false → worth device_owes slot ≡ 1
+plug_worth : (slot : Option Bool) → not (unwrap_or slot false) ≡ false → worth one_if slot ≡ 1
 plug_worth None e = absurd cc
 plug_worth (Some true) e = refl
 plug_worth (Some false) e = absurd cc
 
-no_plug_worth : (slot : Option Bool) → worth device_owes (option_map without_plug slot) ≡ 0
+no_plug_worth : (slot : Option Bool) → worth one_if (option_map without_plug slot) ≡ 0
 no_plug_worth None = refl
 no_plug_worth (Some b) = refl
 
@@ -317,11 +317,11 @@ husk_doomed_owes phase.Live e = absurd cc
 husk_doomed_owes phase.Doomed e = omega arith
 husk_doomed_owes phase.Husk e = absurd cc
 
-killed_falls : (b : Bool) (x : Object) → b ≡ true → is_live x.phase ≡ true → object_owes (if b then changed ToDoomed x else x) < object_owes x
+killed_falls : (b : Bool) (x : Object) → b ≡ true → is_live x.phase ≡ true → object_owes (if b then with_change ToDoomed x else x) < object_owes x
 killed_falls true x is live = doomed_live_owes x.phase live
 killed_falls false x is live = absurd cc
 
-gone_falls : (b : Bool) (x : Object) → b ≡ true → is_doomed x.phase ≡ true → object_owes (if b then changed ToHusk x else x) < object_owes x
+gone_falls : (b : Bool) (x : Object) → b ≡ true → is_doomed x.phase ≡ true → object_owes (if b then with_change ToHusk x else x) < object_owes x
 gone_falls true x is doomed = husk_doomed_owes x.phase doomed
 gone_falls false x is doomed = absurd cc
 
@@ -335,7 +335,7 @@ can_go_live m f o (Some x) is e =
 killed_stands : (m : State) (o : ℕ) (slot : Option Object) → may_kill_object m o slot ≡ true → list_any (is_live_with o) m.objects ≡ true
 killed_stands m o None e = absurd cc
 killed_stands m o (Some x) e =
-    let swept = and_parts (is_swept m x.file) (not (has_doomed m x.file) && is_object o (newest_free m x.file)) e in
+    let swept = and_parts (may_sweep m x.file) (not (has_doomed m x.file) && is_object o (newest_free m x.file)) e in
     let newest = and_parts (not (has_doomed m x.file)) (is_object o (newest_free m x.file)) swept.1 in
     can_go_live m x.file o (newest_free m x.file) refl newest.1
 
@@ -349,7 +349,7 @@ kill_owes m o may =
 gone_owes : (m : State) (o : ℕ) (slot : Option Object) → object_with m o ≡ slot → may_go_object m slot ≡ true → owed (gone_from m o slot) + 1 ≤ owed m
 gone_owes m o None is may = absurd cc
 gone_owes m o (Some x) is may =
-    let doomed = and_parts (is_doomed x.phase) (is_swept m x.file) may in
+    let doomed = and_parts (is_doomed x.phase) (may_sweep m x.file) may in
     let stands = find_among (has_id o) (is_doomed_with o) m.objects x is (and_from (has_id o x) (is_doomed x.phase) (find_passes (has_id o) m.objects x is) doomed.0) in
     let falls = sum_by-map-falls object_owes (on_object o ToHusk) (is_doomed_with o) m.objects (change_owes o ToHusk)
     (λ y same. (let parts = and_parts (has_id o y) (is_doomed y.phase) same in gone_falls (has_id o y) y parts.0 parts.1))
@@ -368,7 +368,7 @@ owed_after m (Step c w o found a) allowed =
     let pays = step_owes m (after m (Step c w o found a)) c w o found a (IsTurn-allowed m c w o found a allowed) in
     omega (arith, pays)
 owed_after m (Unplug d) allowed =
-    omega (arith, sum_by-at_place_worth device_owes without_plug m.plugged d, plug_worth (slice_get m.plugged d) allowed.1, no_plug_worth (slice_get m.plugged d))
+    omega (arith, sum_by-at_place_worth one_if without_plug m.plugged d, plug_worth (slice_get m.plugged d) allowed.1, no_plug_worth (slice_get m.plugged d))
 owed_after m (Tear f by) allowed =
     omega (arith, files_change m f (in_phase (file.Tearing by)) (torn_by (by == DRIVER)) (λ x. omega arith), torn_owes (by == DRIVER) (phase_of m f) (is_unplugged m (device_of m f)) allowed.2)
 owed_after m (Kill o) allowed = omega (arith, kill_owes m o allowed)

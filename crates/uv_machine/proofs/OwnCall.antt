@@ -19,7 +19,7 @@ use Rattle.uv_machine.specs.States.{the_call, call_of, object_with}
 use Rattle.uv_machine.specs.Steps.{look_told}
 use Rattle.uv_machine.specs.Effects.{no_call, made_outcome, act}
 use Rattle.uv_machine.specs.Histories.{Allowed, after}
-use Rattle.uv_machine.specs.Accounts.{word_steps, is_make, abort_steps, free_steps, steps_back, steps_behind, steps_ahead}
+use Rattle.uv_machine.specs.Accounts.{word_steps, is_make, count_of, free_steps, steps_back, steps_behind, steps_ahead}
 use Rattle.uv_num.proofs.PlaceLaws.{slice_get-at_place_same}
 use Rattle.uv_machine.proofs.Planned.{InPlan, IsClosing, stands_in_plan, closing_abort, closing_free}
 use Rattle.uv_machine.proofs.Turns.{Turn, object_made, may_refuse, IsTurn, IsTurn-allowed}
@@ -102,7 +102,7 @@ fewer_as : (call : InFlight) (slot slot' : Option InFlight) → slot ≡ slot' �
 fewer_as call slot slot' e f = rw e f
 
 -- a step of the plan that makes nothing, and keeps the number
-fewer_plain : (call call' : InFlight) (w : Word) → InPlan call w → is_make w ≡ false → IsNextOf call call' → abort_steps call'.reserved ≡ abort_steps call.reserved → free_steps call' + 1 ≤ free_steps call + word_steps w → IsFewer call (Some call')
+fewer_plain : (call call' : InFlight) (w : Word) → InPlan call w → is_make w ≡ false → IsNextOf call call' → count_of call'.reserved ≡ count_of call.reserved → free_steps call' + 1 ≤ free_steps call + word_steps w → IsFewer call (Some call')
 fewer_plain call call' w plan makes next aborts frees =
     let rest = drop (call.place + 1) (plan_for call.request) in
     let ahead = IsAhead-in_plan call w plan in
@@ -125,7 +125,7 @@ fewer_reserved call call' plan next frees =
     let behind = steps_then call' rest (next.refusal ∙ plan.fine) (words_behind call call' Reserve rest ahead next) ∙ ap (λ b. steps_by b (sum_by word_steps rest) call') makes in
     rw (before, behind) (fewer_before_make 1 (sum_by word_steps rest) call call' (omega (arith, frees)))
 
-fewer_make : (call call' : InFlight) → InPlan call Make → IsNextOf call call' → abort_steps call'.reserved ≡ 0 → free_steps call' ≡ free_steps call → IsFewer call (Some call')
+fewer_make : (call call' : InFlight) → InPlan call Make → IsNextOf call call' → count_of call'.reserved ≡ 0 → free_steps call' ≡ free_steps call → IsFewer call (Some call')
 fewer_make call call' plan next aborts frees =
     let rest = drop (call.place + 1) (plan_for call.request) in
     let ahead = IsAhead-in_plan call Make plan in
@@ -149,7 +149,7 @@ fewer_own call slot (OwnTurn.OwnChecks plan is) = fewer_as call slot _ is (fewer
 fewer_own call slot (OwnTurn.OwnFinishes plan is) = fewer_as call slot _ is (fewer_plain call (without_lock call) Finish plan refl (record { request = refl; refusal = refl; place = refl }) refl (omega arith))
 fewer_own call slot (OwnTurn.OwnAborts ends word is) =
     let number = closing_abort call word in
-    let one : abort_steps call.reserved ≡ 1 = ap abort_steps number.1 in
+    let one : count_of call.reserved ≡ 1 = ap count_of number.1 in
     fewer_as call slot _ is (fewer_closing call (without_number call) ends ends (omega (arith, one)))
 fewer_own call slot (OwnTurn.OwnFrees ends word is) =
     let frees = length-ids_behind call.looked (closing_free call word).1 in

@@ -1,4 +1,5 @@
 -- What a call holds exclusively stands there, for its next word.
+use Rattle.uv_machine.specs.Accounts.{count_of}
 use Rattle.std.proofs.Common.{◌≡◌, ◌≢◌, ℕ, Bool, true, false, List, [], ◌∷◌, ◌++◌, Option, Some, None, length, map, refl, ap, sym, ◌∙◌, subst, arith, inl, inr, ⊎_elim}
 use Rattle.std.specs.Prelude.{not, ◌||◌, ◌&&◌, nat_lt, slice_get, filter, if◌then◌else◌}
 use Rattle.std.proofs.lemmas.Option.{none-some, same_Some}
@@ -25,13 +26,13 @@ use Rattle.uv_machine.specs.declared.object.Change.{Change}
 use Rattle.uv_machine.specs.declared.object.Change.TheVariants.{ToLive, ToDoomed, ToHusk, ToBound}
 use Rattle.uv_machine.specs.declared.call.InFlight.{InFlight}
 use Rattle.uv_machine.specs.declared.state.State.{State}
-use Rattle.uv_machine.specs.Objects.{has_id, is_kind, is_made, is_live, is_doomed, is_husk, doomed_from, changed, on_object}
+use Rattle.uv_machine.specs.Objects.{has_id, is_kind, is_made, is_live, is_doomed, is_husk, doomed_from, with_change, on_object}
 use Rattle.uv_machine.specs.Plans.{plan_of, next_word, closing, own_object, acted_on, holds, looks_at, entered, with_refusal, with_number, with_look, with_made, with_outcome, with_lock, without_lock, without_number, without_look, moved_on}
 use Rattle.uv_machine.specs.States.{call_of, object_with, has_others, is_quiet, is_tearing, is_callable, is_closing, has_standing, phase_of, start}
 use Rattle.uv_machine.specs.Effects.{refusal_in, with_room_for, made_outcome, act, binding_of, not_with_id, not_in_file, gone_from, put_call, unless_answered}
 use Rattle.uv_machine.specs.Outside.{may_go_object}
 use Rattle.uv_machine.specs.Histories.{Allowed, after, state_from, IsLegalFrom}
-use Rattle.uv_machine.specs.Reached.{IsIn, is_held_at, StandsFor, OwnStands, Reached, count_of}
+use Rattle.uv_machine.specs.Reached.{IsIn, is_held_at, IsInPhaseFor, OwnStands, Reached}
 use Rattle.uv_machine.specs.Laws.{LegalOwnStands}
 use Rattle.uv_machine.proofs.Members.{IsIn-into_map, IsIn-append-left, IsIn-append-right}
 use Rattle.uv_machine.proofs.Planned.{InPlan, IsClosing, unwinds, closing_unwinds, stands_in_plan, next_place-in_plan, next_word-planned, next_word-closing}
@@ -101,7 +102,7 @@ pub record GoesOn (objects' : List Object) (x : Object) : Type 0 where
 abbrev pub KeepsOn : List Object → List Object → ℕ → Type 0
 KeepsOn objects objects' o = (x : Object) → IsIn x objects → x.id ≡ o → GoesOn objects' x
 
-stands_on : (w : Word) (objects objects' : List Object) (o : ℕ) → KeepsOn objects objects' o → StandsFor w objects o → StandsFor w objects' o
+stands_on : (w : Word) (objects objects' : List Object) (o : ℕ) → KeepsOn objects objects' o → IsInPhaseFor w objects o → IsInPhaseFor w objects' o
 stands_on w objects objects' o keeps s =
     let g = keeps s.item s.within s.id in
     record { item = g.item; within = g.within; id = g.id ∙ s.id; held = ap (is_held_at w) g.phase ∙ s.held }
@@ -109,7 +110,7 @@ stands_on w objects objects' o keeps s =
 on_same : (objects : List Object) (o : ℕ) → KeepsOn objects objects o
 on_same objects o x k e = record { item = x; within = k; id = refl; phase = refl }
 
-other_is : (b : Bool) (change : Change) (x : Object) → b ≡ false → (if b then changed change x else x) ≡ x
+other_is : (b : Bool) (change : Change) (x : Object) → b ≡ false → (if b then with_change change x else x) ≡ x
 other_is true change x e = absurd cc
 other_is false change x e = refl
 
@@ -124,7 +125,7 @@ on_other objects o i change ne x k e =
       phase = ap (λ (v : Object). v.phase) same;
     }
 
-bound_id : (b : Bool) (x : Object) (change : Change) (binding : _) → change ≡ ToBound binding → ((if b then changed change x else x).id ≡ x.id) × ((if b then changed change x else x).phase ≡ x.phase)
+bound_id : (b : Bool) (x : Object) (change : Change) (binding : _) → change ≡ ToBound binding → ((if b then with_change change x else x).id ≡ x.id) × ((if b then with_change change x else x).phase ≡ x.phase)
 bound_id true x change binding e = rw e (refl, refl)
 bound_id false x change binding e = (refl, refl)
 
@@ -158,8 +159,8 @@ on_room objects o z x k e = record { item = x; within = with_room_by (nat_lt (le
 on_as : (m' n : State) (objects : List Object) (o : ℕ) → m' ≡ n → KeepsOn objects n.objects o → KeepsOn objects m'.objects o
 on_as m' n objects o e h = let P : State → Type 0 = λ s. KeepsOn objects s.objects o in subst P (sym e) h
 
-stands_as : (w : Word) (m' n : State) (o : ℕ) → m' ≡ n → StandsFor w n.objects o → StandsFor w m'.objects o
-stands_as w m' n o e h = let P : State → Type 0 = λ s. StandsFor w s.objects o in subst P (sym e) h
+stands_as : (w : Word) (m' n : State) (o : ℕ) → m' ≡ n → IsInPhaseFor w n.objects o → IsInPhaseFor w m'.objects o
+stands_as w m' n o e h = let P : State → Type 0 = λ s. IsInPhaseFor w s.objects o in subst P (sym e) h
 
 -- Turns.
 
@@ -200,25 +201,25 @@ module _ (m : State) (r : Reached m) (numbered : Numbered m) (own : OwnStands m)
 
   -- The call's own object.
 
-  own_now : (o : ℕ) → call.locked ≡ Some o → StandsFor (next_word call) m.objects o
+  own_now : (o : ℕ) → call.locked ≡ Some o → IsInPhaseFor (next_word call) m.objects o
   own_now o locked = own c o call is locked
 
   -- where the call holds nothing
   unlocked : (o : ℕ) → count_of call.locked ≡ 0 → call.locked ≡ Some o → ⊥
   unlocked o none locked = let one : count_of call.locked ≡ 1 = ap count_of locked in cc
 
-  rests_now : (v : Word) (o : ℕ) → next_word call ≡ v → ((p : Phase) → is_held_at v p ≡ rests p) → (w : Word) → ((p : Phase) → is_held_at w p ≡ rests p) → call.locked ≡ Some o → StandsFor w m.objects o
+  rests_now : (v : Word) (o : ℕ) → next_word call ≡ v → ((p : Phase) → is_held_at v p ≡ rests p) → (w : Word) → ((p : Phase) → is_held_at w p ≡ rests p) → call.locked ≡ Some o → IsInPhaseFor w m.objects o
   rests_now v o word before w behind locked =
       let s = own_now o locked in
       record { item = s.item; within = s.within; id = s.id; held = behind s.item.phase ∙ sym (before s.item.phase) ∙ ap (λ u. is_held_at u s.item.phase) (sym word) ∙ s.held }
 
   -- behind a refusal
-  own_refused : (a : Answer) (m' : State) (e : Errno) (v : Word) (o : ℕ) → next_word call ≡ v → may_refuse v ≡ true → call.locked ≡ Some o → StandsFor (next_word (with_refusal e call)) m.objects o
+  own_refused : (a : Answer) (m' : State) (e : Errno) (v : Word) (o : ℕ) → next_word call ≡ v → may_refuse v ≡ true → call.locked ≡ Some o → IsInPhaseFor (next_word (with_refusal e call)) m.objects o
   own_refused a m' e v o word may locked =
       rests_now v o word (λ p. refusing_rests v p may) (next_word (with_refusal e call)) (λ p. closing_rests (next_word (with_refusal e call)) p (closing_unwinds call)) locked
 
   -- while it closes
-  own_closing : (k : InFlight) (o : ℕ) → IsClosing call → IsClosing k → call.locked ≡ Some o → StandsFor (next_word k) m.objects o
+  own_closing : (k : InFlight) (o : ℕ) → IsClosing call → IsClosing k → call.locked ≡ Some o → IsInPhaseFor (next_word k) m.objects o
   own_closing k o ends ends' locked =
       let P : Word → Type 0 = λ v. (p : Phase) → is_held_at v p ≡ rests p in
       rests_now (closing call) o (next_word-closing call ends) (λ p. closing_rests (closing call) p (closing_unwinds call)) (next_word k)
@@ -227,7 +228,7 @@ module _ (m : State) (r : Reached m) (numbered : Numbered m) (own : OwnStands m)
   planned_word : (w : Word) → InPlan call w → next_word call ≡ w
   planned_word w plan = next_word-planned call w plan.fine plan.planned
 
-  own_made : (a : Answer) (m' : State) (t : Made m c call m') (o : ℕ) → m.made ≡ o → StandsFor (next_word (with_made m.made (made_outcome (object_made m call t.kind t.index)) call)) m'.objects o
+  own_made : (a : Answer) (m' : State) (t : Made m c call m') (o : ℕ) → m.made ≡ o → IsInPhaseFor (next_word (with_made m.made (made_outcome (object_made m call t.kind t.index)) call)) m'.objects o
   own_made a m' t o same =
       let x = object_made m call t.kind t.index in
       let k = with_made m.made (made_outcome x) call in
@@ -240,7 +241,7 @@ module _ (m : State) (r : Reached m) (numbered : Numbered m) (own : OwnStands m)
       stands_as (next_word k) m' _ o t.gives
       (record { item = x; within = subst Q (sym room) (IsIn-append-right x m.objects (x ∷ []) (inl refl)); id = same; held = ap (λ v. is_held_at v x.phase) word })
 
-  own_checked : (a : Answer) (m' : State) (t : Checked m c call m') (o : ℕ) → call.locked ≡ Some o → StandsFor (next_word (moved_on call)) m'.objects o
+  own_checked : (a : Answer) (m' : State) (t : Checked m c call m') (o : ℕ) → call.locked ≡ Some o → IsInPhaseFor (next_word (moved_on call)) m'.objects o
   own_checked a m' t o locked =
       let i = own_object call in
       let j = moved_on call in
@@ -251,7 +252,7 @@ module _ (m : State) (r : Reached m) (numbered : Numbered m) (own : OwnStands m)
       let now = own_now o locked in
       let x = now.item in
       let mine : x.id ≡ i = now.id ∙ same_Some o i (sym locked ∙ owns_at_check m r c call is t.plan) in
-      let here : on_object i ToDoomed x ≡ changed ToDoomed x = ap (λ b. if b then changed ToDoomed x else x) (eq-eqb x.id i mine) in
+      let here : on_object i ToDoomed x ≡ with_change ToDoomed x = ap (λ b. if b then with_change ToDoomed x else x) (eq-eqb x.id i mine) in
       let rested : rests x.phase ≡ true = ap (λ v. is_held_at v x.phase) (sym (planned_word Check t.plan)) ∙ now.held in
       stands_as (next_word j) m' _ o t.gives
       (record {
@@ -286,7 +287,7 @@ module _ (m : State) (r : Reached m) (numbered : Numbered m) (own : OwnStands m)
   checks_next : (asked : Ask) (n p : ℕ) → p ≡ 1 → slice_get (plan_of (Destroys asked) n) p ≡ Some Check
   checks_next asked n p e = ap (slice_get (plan_of (Destroys asked) n)) e
 
-  own_locked : (a : Answer) (m' : State) (t : Locked m c call m') (o : ℕ) → t.item.id ≡ o → StandsFor (next_word (with_lock t.item.id call)) m'.objects o
+  own_locked : (a : Answer) (m' : State) (t : Locked m c call m') (o : ℕ) → t.item.id ≡ o → IsInPhaseFor (next_word (with_lock t.item.id call)) m'.objects o
   own_locked a m' t o same =
       let x = t.item in
       let j = with_lock x.id call in
@@ -300,13 +301,13 @@ module _ (m : State) (r : Reached m) (numbered : Numbered m) (own : OwnStands m)
       stands_as (next_word j) m' _ o t.gives
       (record { item = x; within = p.within; id = same; held = ap (λ v. is_held_at v x.phase) word ∙ rests_by x.phase p.seen doomed })
 
-  stands_own : (k k' : InFlight) (m' : State) (o : ℕ) → Some k' ≡ Some k → k.locked ≡ Some o → (k'.locked ≡ Some o → StandsFor (next_word k') m'.objects o) → StandsFor (next_word k) m'.objects o
+  stands_own : (k k' : InFlight) (m' : State) (o : ℕ) → Some k' ≡ Some k → k.locked ≡ Some o → (k'.locked ≡ Some o → IsInPhaseFor (next_word k') m'.objects o) → IsInPhaseFor (next_word k) m'.objects o
   stands_own k k' m' o e locked h =
       let same = same_Some k' k e in
-      let P : Word → Type 0 = λ v. StandsFor v m'.objects o in
+      let P : Word → Type 0 = λ v. IsInPhaseFor v m'.objects o in
       subst P (ap next_word same) (h (ap (λ (v : InFlight). v.locked) same ∙ locked))
 
-  own_stands : (a : Answer) (m' : State) (t : Turn m c call a m') (k : InFlight) (o : ℕ) → (calls_turn m c call a m' t).change (Some call) ≡ Some k → k.locked ≡ Some o → StandsFor (next_word k) m'.objects o
+  own_stands : (a : Answer) (m' : State) (t : Turn m c call a m') (k : InFlight) (o : ℕ) → (calls_turn m c call a m' t).change (Some call) ≡ Some k → k.locked ≡ Some o → IsInPhaseFor (next_word k) m'.objects o
   own_stands a m' (Refuses t) k o e locked =
       stands_own k (with_refusal t.errno call) m' o e locked
       (λ l. stands_as (next_word (with_refusal t.errno call)) m' _ o t.gives (own_refused a m' t.errno t.word o (planned_word t.word t.plan) t.may l))
@@ -340,7 +341,7 @@ module _ (m : State) (r : Reached m) (numbered : Numbered m) (own : OwnStands m)
       (λ l. stands_as (next_word (without_look call)) m' _ o t.gives (own_closing (without_look call) o t.ends t.ends l))
   own_stands a m' (Leaves t) k o e locked = absurd (none-some k e)
 
-  owning_by : (a : Answer) (m' : State) (t : Turn m c call a m') (b o : ℕ) (k : InFlight) → CallBehind m c b ((calls_turn m c call a m' t).change (Some call)) k → k.locked ≡ Some o → StandsFor (next_word k) m'.objects o
+  owning_by : (a : Answer) (m' : State) (t : Turn m c call a m') (b o : ℕ) (k : InFlight) → CallBehind m c b ((calls_turn m c call a m' t).change (Some call)) k → k.locked ≡ Some o → IsInPhaseFor (next_word k) m'.objects o
   owning_by a m' t b o k (CallBehind.IsOwn same e) locked = own_stands a m' t k o e locked
   owning_by a m' t b o k (CallBehind.IsOther ne e) locked = stands_on (next_word k) m.objects m'.objects o (keeps_turn a m' t o (held_apart b k o ne e locked)) (own b o k e locked)
 

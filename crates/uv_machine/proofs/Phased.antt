@@ -1,4 +1,5 @@
 -- What a call in flight has and holds by its place in its plan, from one turn to the next.
+use Rattle.uv_machine.specs.Accounts.{count_of}
 use Rattle.std.proofs.Common.{true, ◌≡◌, ℕ, zero, suc, ◌+◌, ◌<◌, ◌≤◌, List, [], ◌∷◌, ◌++◌, Option, Some, None, length, replicate, refl, ap, sym, ◌∙◌, subst, arith, ⊎_elim}
 use Rattle.std.specs.Prelude.{slice_get}
 use Rattle.std.proofs.lemmas.Option.{none-some}
@@ -19,7 +20,7 @@ use Rattle.uv_machine.specs.declared.entry.Word.TheVariants.{Reserve, Look, Make
 use Rattle.uv_machine.specs.declared.entry.Answer.{Answer}
 use Rattle.uv_machine.specs.declared.call.InFlight.{InFlight}
 use Rattle.uv_machine.specs.Plans.{plan_of, plan_for, entered, with_refusal, with_number, with_look, with_made, with_outcome, with_lock, without_lock, without_number, without_look, moved_on}
-use Rattle.uv_machine.specs.Reached.{count_of, look_count, HasInCreate, HasInDestroy, HasInAct, HasRefused, HasInPlan, HasBehind, IsPhased}
+use Rattle.uv_machine.specs.Reached.{look_count, HasInCreate, HasInDestroy, HasInAct, HasRefused, HasInPlan, HasBehind, IsPhased}
 use Rattle.uv_machine.proofs.Planned.{InPlan, IsClosing, StandsAt, IsCreateLook, IsActLook, stands_in_plan, next_place-in_plan, looks_few, closing_free}
 use Rattle.uv_machine.proofs.Turns.{may_refuse}
 use Rattle.uv_machine.proofs.Ahead.{length-ids_behind}

@@ -33,7 +33,7 @@ use Rattle.uv_machine.specs.Objects.{has_id, is_made, is_doomed, is_husk, is_sta
 use Rattle.uv_machine.specs.Plans.{looks_at, holds, entered}
 use Rattle.uv_machine.specs.States.{the_call, call_of, object_with, phase_in, phase_of, device_of, is_unplugged, is_quiet, is_fresh, is_open, is_callable, is_tearing, is_removing, has_standing, has_doomed, newest_free, fresh_file, start}
 use Rattle.uv_machine.specs.Effects.{refusal_in, with_file, with_object, with_burial, unless_answered, put_call, in_phase, opened, dissociated, without_plug, gone_from, not_in_file, after_closed, after_unplug}
-use Rattle.uv_machine.specs.Outside.{MayAnswer, is_swept, is_object, may_tear, may_kill_object, may_kill, may_go_object}
+use Rattle.uv_machine.specs.Outside.{MayAnswer, may_sweep, is_object, may_tear, may_kill_object, may_kill, may_go_object}
 use Rattle.uv_machine.specs.Histories.{Allowed, after, state_from, state_of, IsLegalFrom, IsLegal}
 use Rattle.uv_machine.specs.Reached.{IsIn, IsPhased, HoldsWell, IsHeldFor, IsLeft, Reached}
 use Rattle.uv_machine.proofs.Members.{IsIn-map, Passes-find, Passes-filter, fails_any, slice_get-at_place_elsewhere}
@@ -81,8 +81,8 @@ pub record FilesGo (m m' : State) : Type 0 where
   pub objects : m'.objects ≡ m.objects
   pub made : m'.made ≡ m.made
   pub count : length m'.files ≡ FILES
-  pub ending : (x : Object) → IsIn x m.objects → is_doomed x.phase ≡ true → is_swept m x.file ≡ true → is_swept m' x.file ≡ true
-  pub husks : (x : Object) → IsIn x m.objects → is_husk x.phase ≡ true → is_swept m x.file ≡ true → (is_swept m' x.file ≡ true) ⊎ IsLeft m' x.file
+  pub ending : (x : Object) → IsIn x m.objects → is_doomed x.phase ≡ true → may_sweep m x.file ≡ true → may_sweep m' x.file ≡ true
+  pub husks : (x : Object) → IsIn x m.objects → is_husk x.phase ≡ true → may_sweep m x.file ≡ true → (may_sweep m' x.file ≡ true) ⊎ IsLeft m' x.file
   pub left : (f : ℕ) → IsLeft m f → IsLeft m' f
   pub removing : (f : ℕ) → is_removing (phase_of m' f) ≡ true → is_unplugged m' (device_of m' f) ≡ true
 
@@ -108,7 +108,7 @@ Reached-files m m' r g =
 
 -- the files beside one that changes
 module _ (m : State) (f : ℕ) (g : File → File) where
-  swept_other : (k : ℕ) → f ≢ k → is_swept m k ≡ true → is_swept (with_file m f g) k ≡ true
+  swept_other : (k : ℕ) → f ≢ k → may_sweep m k ≡ true → may_sweep (with_file m f g) k ≡ true
   swept_other k ne swept =
       let parts = and_parts (is_tearing (phase_of m k)) (is_quiet m k) swept in
       both_true (ap is_tearing (phase_of-other m f g k ne) ∙ parts.0) parts.1
@@ -187,11 +187,11 @@ torn_go : (m : State) (f by : ℕ) → Reached m → may_tear m f by ≡ true �
 torn_go m f by r may =
     let g = in_phase (file.Tearing by) in
     let m' = with_file m f g in
-    let swept : (k : ℕ) → is_swept m k ≡ true → is_swept m' k ≡ true =
-    λ k h. by_file f k (λ i. is_swept m' i ≡ true)
+    let swept : (k : ℕ) → may_sweep m k ≡ true → may_sweep m' k ≡ true =
+    λ k h. by_file f k (λ i. may_sweep m' i ≡ true)
     (λ e. (
-    let P : ℕ → Type 0 = λ i. is_swept m' i ≡ true in
-    let parts = and_parts (is_tearing (phase_of m f)) (is_quiet m f) (ap (is_swept m) e ∙ h) in
+    let P : ℕ → Type 0 = λ i. may_sweep m' i ≡ true in
+    let parts = and_parts (is_tearing (phase_of m f)) (is_quiet m f) (ap (may_sweep m) e ∙ h) in
     at_file f k P e (both_true (ap is_tearing (phase_of-here m f g) ∙ tearing_after by (slice_get m.files f) parts.0) parts.1)))
     (λ ne. swept_other m f g k ne h) in
     record {
@@ -252,7 +252,7 @@ dissociated_go m f r removing none =
       made = refl;
       count = length-at_place m.files f dissociated ∙ r.files;
       ending = λ x k h swept. swept_other m f dissociated x.file (λ e. none_standing m f x none k (sym e) h) swept;
-      husks = λ x k h swept. by_file f x.file (λ i. (is_swept m' i ≡ true) ⊎ IsLeft m' i)
+      husks = λ x k h swept. by_file f x.file (λ i. (may_sweep m' i ≡ true) ⊎ IsLeft m' i)
           (λ e. inr (let P : ℕ → Type 0 = λ i. IsLeft m' i in subst P e here))
           (λ ne. inl (swept_other m f dissociated x.file ne swept));
       left = λ k l. by_file f k (λ i. IsLeft m' i)
@@ -315,7 +315,7 @@ module _ (m : State) (c f : ℕ) (request : Request) (r : Reached m) (idle : cal
       (λ e. inr (e.1, sym (ap the_call (slice_get-at_place_elsewhere m.calls c b (put_call (entered f request)) e.1)) ∙ is))
       (eqb_tells c b)
 
-  swept_entered : (k : ℕ) → is_swept m k ≡ true → is_swept (record m { calls = at_place m.calls c (put_call (entered f request)) }) k ≡ true
+  swept_entered : (k : ℕ) → may_sweep m k ≡ true → may_sweep (record m { calls = at_place m.calls c (put_call (entered f request)) }) k ≡ true
   swept_entered k swept =
       let parts = and_parts (is_tearing (phase_of m k)) (is_quiet m k) swept in
       let apart : f ≢ k = λ e. tearing_not_callable (phase_of m f) callable (ap (λ i. is_tearing (phase_of m i)) e ∙ parts.0) in
@@ -358,16 +358,16 @@ pub record IsSweptObject (m : State) (o : ℕ) : Type 0 where
   pub item : Object
   pub within : IsIn item m.objects
   pub id : item.id ≡ o
-  pub swept : is_swept m item.file ≡ true
+  pub swept : may_sweep m item.file ≡ true
 
-named : (m : State) (o : ℕ) (x : Object) → object_with m o ≡ Some x → is_swept m x.file ≡ true → IsSweptObject m o
+named : (m : State) (o : ℕ) (x : Object) → object_with m o ≡ Some x → may_sweep m x.file ≡ true → IsSweptObject m o
 named m o x e swept =
     let p = Passes-find (has_id o) x m.objects e in
     record { item = x; within = p.within; id = eqb-true x.id o p.test; swept = swept }
 
 killed_by : (m : State) (o : ℕ) (slot : Option Object) → object_with m o ≡ slot → may_kill_object m o slot ≡ true → IsSweptObject m o
 killed_by m o None e may = absurd cc
-killed_by m o (Some x) e may = named m o x e (and_parts (is_swept m x.file) (not (has_doomed m x.file) && is_object o (newest_free m x.file)) may).0
+killed_by m o (Some x) e may = named m o x e (and_parts (may_sweep m x.file) (not (has_doomed m x.file) && is_object o (newest_free m x.file)) may).0
 
 pub killed_swept : (m : State) (o : ℕ) → may_kill m o ≡ true → IsSweptObject m o
 killed_swept m o may = killed_by m o (object_with m o) refl may
@@ -406,15 +406,15 @@ module _ (m : State) (r : Reached m) (o : ℕ) (s : IsSweptObject m o) (change :
       held_as m' Commit x y (ap (λ (z : Object). z.id) from.gives ∙ on_object-id o change x) (ap (λ (z : Object). z.file) from.gives ∙ on_object-file o change x) (held_alike m m' Commit x calls (r.making x from.within made))
 
   -- what is so of the file of the object named
-  swept_named : (x : Object) → IsIn x m.objects → x.id ≡ o → is_swept m x.file ≡ true
-  swept_named x k e = ap (λ (v : Object). is_swept m v.file) (same_object m r x s.item k s.within (e ∙ sym s.id)) ∙ s.swept
+  swept_named : (x : Object) → IsIn x m.objects → x.id ≡ o → may_sweep m x.file ≡ true
+  swept_named x k e = ap (λ (v : Object). may_sweep m v.file) (same_object m r x s.item k s.within (e ∙ sym s.id)) ∙ s.swept
 
-ending_as : (m m' : State) (x y : Object) → y.id ≡ x.id → y.file ≡ x.file → m'.calls ≡ m.calls → ((f : ℕ) → is_swept m' f ≡ is_swept m f) → IsHeldFor m Finish x ⊎ (is_swept m x.file ≡ true) → IsHeldFor m' Finish y ⊎ (is_swept m' y.file ≡ true)
+ending_as : (m m' : State) (x y : Object) → y.id ≡ x.id → y.file ≡ x.file → m'.calls ≡ m.calls → ((f : ℕ) → may_sweep m' f ≡ may_sweep m f) → IsHeldFor m Finish x ⊎ (may_sweep m x.file ≡ true) → IsHeldFor m' Finish y ⊎ (may_sweep m' y.file ≡ true)
 ending_as m m' x y id file calls swept (inl h) = inl (held_as m' Finish x y id file (held_alike m m' Finish x calls h))
-ending_as m m' x y id file calls swept (inr h) = inr (swept y.file ∙ ap (is_swept m) file ∙ h)
+ending_as m m' x y id file calls swept (inr h) = inr (swept y.file ∙ ap (may_sweep m) file ∙ h)
 
-husk_as : (m m' : State) (x y : Object) → y.file ≡ x.file → ((f : ℕ) → is_swept m' f ≡ is_swept m f) → ((f : ℕ) → IsLeft m f → IsLeft m' f) → (is_swept m x.file ≡ true) ⊎ IsLeft m x.file → (is_swept m' y.file ≡ true) ⊎ IsLeft m' y.file
-husk_as m m' x y file swept left (inl h) = inl (swept y.file ∙ ap (is_swept m) file ∙ h)
+husk_as : (m m' : State) (x y : Object) → y.file ≡ x.file → ((f : ℕ) → may_sweep m' f ≡ may_sweep m f) → ((f : ℕ) → IsLeft m f → IsLeft m' f) → (may_sweep m x.file ≡ true) ⊎ IsLeft m x.file → (may_sweep m' y.file ≡ true) ⊎ IsLeft m' y.file
+husk_as m m' x y file swept left (inl h) = inl (swept y.file ∙ ap (may_sweep m) file ∙ h)
 husk_as m m' x y file swept left (inr h) = inr (let P : ℕ → Type 0 = λ f. IsLeft m' f in subst P (sym file) (left x.file h))
 
 pub Reached-kill : (m : State) (o : ℕ) → Reached m → IsSweptObject m o → Reached (with_object m o ToDoomed)
@@ -445,7 +445,7 @@ Reached-kill m o r s =
 -- Gone.
 
 pub gone_by : (m : State) (o : ℕ) (x : Object) → object_with m o ≡ Some x → may_go_object m (Some x) ≡ true → IsSweptObject m o
-gone_by m o x e may = named m o x e (and_parts (is_doomed x.phase) (is_swept m x.file) may).1
+gone_by m o x e may = named m o x e (and_parts (is_doomed x.phase) (may_sweep m x.file) may).1
 
 Reached-husk : (m : State) (o : ℕ) (x : Object) → Reached m → IsSweptObject m o → Reached (with_burial (with_object m o ToHusk) x)
 Reached-husk m o b r s =

@@ -26,7 +26,7 @@ use Rattle.uv_machine.specs.Objects.{has_id, in_file, is_live, is_doomed, uses_o
 use Rattle.uv_machine.specs.Plans.{own_object, acted_on, looks_at}
 use Rattle.uv_machine.specs.States.{call_of, object_with, has_users, can_go, newest_free, has_doomed}
 use Rattle.uv_machine.specs.Effects.{refusal_in, act, binding_of, not_with_id, not_in_file, gone_from, unless_answered}
-use Rattle.uv_machine.specs.Outside.{is_swept, is_object, may_kill_object, may_go_object}
+use Rattle.uv_machine.specs.Outside.{may_sweep, is_object, may_kill_object, may_go_object}
 use Rattle.uv_machine.specs.Histories.{Allowed, after}
 use Rattle.uv_machine.specs.Lives.{is_doomed_object, finishes, releases}
 use Rattle.uv_machine.specs.Reached.{IsIn, Reached}
@@ -148,7 +148,7 @@ free_unused m f o (Some x) is e =
 pub killed_by : (m : State) (o : ℕ) (slot : Option Object) → may_kill_object m o slot ≡ true → has_users m o ≡ false
 killed_by m o None e = absurd cc
 killed_by m o (Some x) e =
-    let swept = and_parts (is_swept m x.file) (not (has_doomed m x.file) && is_object o (newest_free m x.file)) e in
+    let swept = and_parts (may_sweep m x.file) (not (has_doomed m x.file) && is_object o (newest_free m x.file)) e in
     let newest = and_parts (not (has_doomed m x.file)) (is_object o (newest_free m x.file)) swept.1 in
     free_unused m x.file o (newest_free m x.file) refl newest.1
 
@@ -196,7 +196,7 @@ finish_unused m o Exit unused e = absurd cc
 
 gone_doomed : (m : State) (slot : Option Object) → may_go_object m slot ≡ true → is_doomed_object slot ≡ true
 gone_doomed m None e = absurd cc
-gone_doomed m (Some x) e = (and_parts (is_doomed x.phase) (is_swept m x.file) e).0
+gone_doomed m (Some x) e = (and_parts (is_doomed x.phase) (may_sweep m x.file) e).0
 
 pub released_unused : (m : State) (o : ℕ) (e : Entry) → Unused m.objects → Allowed m e → releases m o e ≡ true → has_users m o ≡ false
 released_unused m o (Open c f d a) unused allowed is = absurd cc

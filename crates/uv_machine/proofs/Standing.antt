@@ -26,11 +26,11 @@ use Rattle.uv_machine.specs.declared.object.Change.TheVariants.{ToLive, ToDoomed
 use Rattle.uv_machine.specs.declared.call.InFlight.{InFlight}
 use Rattle.uv_machine.specs.declared.state.State.{State}
 use Rattle.uv_machine.specs.Objects.{has_id, is_live, is_doomed, is_husk, uses_object, on_object}
-use Rattle.uv_machine.specs.Plans.{next_word, own_object, acted_on, looked_at, holds, looks_at, is_number, look_ask, entered, with_refusal, with_number, with_look, with_made, with_outcome, with_lock, without_lock, without_number, without_look, moved_on}
+use Rattle.uv_machine.specs.Plans.{next_word, own_object, acted_on, looked_at, holds, looks_at, is_the_number, look_ask, entered, with_refusal, with_number, with_look, with_made, with_outcome, with_lock, without_lock, without_number, without_look, moved_on}
 use Rattle.uv_machine.specs.States.{call_of, object_with, has_users, is_quiet, is_tearing, is_callable, is_closing, has_standing, phase_of, start}
 use Rattle.uv_machine.specs.Steps.{look_told}
 use Rattle.uv_machine.specs.Effects.{refusal_in, with_room_for, made_outcome, act, binding_of, not_with_id, not_in_file, gone_from, put_call, unless_answered}
-use Rattle.uv_machine.specs.Outside.{is_swept, may_go_object}
+use Rattle.uv_machine.specs.Outside.{may_sweep, may_go_object}
 use Rattle.uv_machine.specs.Histories.{Allowed, after, state_from, IsLegalFrom}
 use Rattle.uv_machine.specs.Reached.{IsIn, is_held_at, OwnStands, StandsLive, LooksStand, UsesStand, Reached}
 use Rattle.uv_machine.specs.Laws.{LegalLooksStand, LegalUsesStand}
@@ -142,7 +142,7 @@ module _ (m : State) (r : Reached m) (own : OwnStands m) (looks : LooksStand m) 
   other_apart b k o ne is' h plan unused e =
       let mine : call.locked ≡ Some o = owns_at_check m r c call is plan ∙ ap (λ (v : ℕ). Some v) e in
       let none = r.alone c b call k o is is' ne mine in
-      let some : holds o (Some k) ≡ true = or_right (is_number o k.locked) (looks_at o k) h in
+      let some : holds o (Some k) ≡ true = or_right (is_the_number o k.locked) (looks_at o k) h in
       cc
 
   old_look : (a : Answer) (m' : State) (t : Turn m c call a m') (o : ℕ) → looks_at o call ≡ true → StandsLive m'.objects call.file o
@@ -280,7 +280,7 @@ looks_entered m c f request r idle callable looks b o k is h =
     (new_or_old m c f request r idle callable b k is)
 
 -- a file that is being swept has no calls
-swept_none : (m : State) (f b : ℕ) (k : InFlight) → is_swept m f ≡ true → call_of m b ≡ Some k → k.file ≡ f → ⊥
+swept_none : (m : State) (f b : ℕ) (k : InFlight) → may_sweep m f ≡ true → call_of m b ≡ Some k → k.file ≡ f → ⊥
 swept_none m f b k swept is same = quiet_none m b f k (and_parts (is_tearing (phase_of m f)) (is_quiet m f) swept).1 is same
 
 killed_look : (m : State) (r : Reached m) (i : ℕ) (s : IsSweptObject m i) (b o : ℕ) (k : InFlight) → call_of m b ≡ Some k → StandsLive m.objects k.file o → i ≡ o → ⊥
@@ -299,7 +299,7 @@ gone_apart m r i o f x found doomed l e =
 looks_gone : (m : State) (i : ℕ) (slot : Option Object) → Reached m → object_with m i ≡ slot → may_go_object m slot ≡ true → LooksStand m → LooksStand (gone_from m i slot)
 looks_gone m i None r e may looks = looks
 looks_gone m i (Some x) r e may looks =
-    let doomed = (and_parts (is_doomed x.phase) (is_swept m x.file) may).0 in
+    let doomed = (and_parts (is_doomed x.phase) (may_sweep m x.file) may).0 in
     looks_same m (gone_from m i (Some x)) refl
     (λ b o k is l. lives_on m.objects (map (on_object i ToHusk) m.objects) k.file o (lives_map m.objects o i ToHusk (λ same. gone_apart m r i o k.file x e doomed l same)) l)
     looks
@@ -350,7 +350,7 @@ uses_killed m i allowed uses =
 uses_gone : (m : State) (i : ℕ) (slot : Option Object) → Reached m → object_with m i ≡ slot → may_go_object m slot ≡ true → UsesStand m → UsesStand (gone_from m i slot)
 uses_gone m i None r e may uses = uses
 uses_gone m i (Some x) r e may uses =
-    let doomed = (and_parts (is_doomed x.phase) (is_swept m x.file) may).0 in
+    let doomed = (and_parts (is_doomed x.phase) (may_sweep m x.file) may).0 in
     uses_map m i ToHusk (λ o g. g) (λ y o k used l same. absurd (gone_apart m r i o y.file x e doomed l same)) uses
 
 uses_closed : (m : State) (f : ℕ) → UsesStand m → UsesStand (after m (Closed f))

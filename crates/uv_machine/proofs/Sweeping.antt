@@ -20,10 +20,10 @@ use Rattle.uv_machine.specs.declared.file.File.{File}
 use Rattle.uv_machine.specs.declared.file.FilePhase.{FilePhase}
 use Rattle.uv_machine.specs.declared.file.FilePhase.TheVariants as file
 use Rattle.uv_machine.specs.declared.state.State.{State}
-use Rattle.uv_machine.specs.Objects.{has_id, in_file, is_live, is_doomed, is_husk, is_live_in, is_doomed_in, is_standing_in, uses_object, doomed_from, changed, on_object}
+use Rattle.uv_machine.specs.Objects.{has_id, in_file, is_live, is_doomed, is_husk, is_live_in, is_doomed_in, is_standing_in, uses_object, doomed_from, with_change, on_object}
 use Rattle.uv_machine.specs.States.{object_with, phase_in, phase_of, device_of, is_unplugged, is_quiet, is_fresh, is_open, is_callable, is_tearing, is_removing, is_closing, has_users, has_doomed, has_standing, can_go, newest_free, start}
 use Rattle.uv_machine.specs.Effects.{with_file, in_phase, with_object, with_burial, gone_from}
-use Rattle.uv_machine.specs.Outside.{is_swept, is_object, may_kill_in, may_kill_object, may_kill, may_go_object, may_go, may_dissociate, may_close}
+use Rattle.uv_machine.specs.Outside.{may_sweep, is_object, may_kill_in, may_kill_object, may_kill, may_go_object, may_go, may_dissociate, may_close}
 use Rattle.uv_machine.specs.Histories.{Allowed, after, state_of, IsLegal}
 use Rattle.uv_machine.specs.Laws.{IsSwept, standing_count}
 use Rattle.uv_machine.specs.Reached.{IsIn, IsAbove, IsHeldFor, Reached}
@@ -159,7 +159,7 @@ module _ (m : State) (f by : ℕ) (r : Reached m) (quiet : is_quiet m f ≡ true
   live_now : is_live x.phase ≡ true
   live_now = and_left _ _ (and_right (in_file f x) _ found.test)
 
-  swept_now : is_swept m f ≡ true
+  swept_now : may_sweep m f ≡ true
   swept_now = both_true (ap is_tearing tearing) quiet
 
   kills_in : may_kill_in m x.id f ≡ true
@@ -188,7 +188,7 @@ module _ (m : State) (f by : ℕ) (r : Reached m) (quiet : is_quiet m f ≡ true
       ∙ find_rising 0 m.made (on_object x.id ToDoomed x) (map (on_object x.id ToDoomed) m.objects) killed_there (IsGraph-map m.made x.id ToDoomed m.objects r.graph (gains_doomed m.made x.id m.objects)).rising
 
   pub goes : may_go (with_object m x.id ToDoomed) x.id ≡ true
-  goes = ap (may_go_object (with_object m x.id ToDoomed)) killed_found ∙ both_true killed_doomed (ap (is_swept m) killed_file ∙ swept_now)
+  goes = ap (may_go_object (with_object m x.id ToDoomed)) killed_found ∙ both_true killed_doomed (ap (may_sweep m) killed_file ∙ swept_now)
 
   -- behind its going
 
@@ -241,10 +241,10 @@ pub may_go-killed : (h : List Entry) (f by : ℕ) (x : Object) → IsSwept h f b
 may_go-killed h f by x s free = rw (state_from-snoc start h (Kill x.id)) (goes (state_of h) f by (Reached-state_of h s.legal) s.quiet s.tearing s.clear x free)
 
 -- what was killed stands doomed, and is else as it was
-pub object_with-killed : (h : List Entry) (f by : ℕ) (x : Object) → IsSwept h f by → newest_free (state_of h) f ≡ Some x → (object_with (state_of (h ++ Kill x.id ∷ [])) x.id ≡ Some (changed ToDoomed x)) × (x.file ≡ f)
+pub object_with-killed : (h : List Entry) (f by : ℕ) (x : Object) → IsSwept h f by → newest_free (state_of h) f ≡ Some x → (object_with (state_of (h ++ Kill x.id ∷ [])) x.id ≡ Some (with_change ToDoomed x)) × (x.file ≡ f)
 object_with-killed h f by x s free =
     let r = Reached-state_of h s.legal in
-    let it : on_object x.id ToDoomed x ≡ changed ToDoomed x = ap (λ b. changed_if b ToDoomed x) (eq-eqb x.id x.id refl) in (
+    let it : on_object x.id ToDoomed x ≡ with_change ToDoomed x = ap (λ b. changed_if b ToDoomed x) (eq-eqb x.id x.id refl) in (
       ap (λ t. object_with t x.id) (state_from-snoc start h (Kill x.id)) ∙ killed_found (state_of h) f by r s.quiet s.tearing s.clear x free ∙ ap Some it,
       of_file (state_of h) f by r s.quiet s.tearing s.clear x free,
     )

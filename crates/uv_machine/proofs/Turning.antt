@@ -22,9 +22,9 @@ use Rattle.uv_machine.specs.declared.object.Change.TheVariants.{ToLive, ToDoomed
 use Rattle.uv_machine.specs.declared.call.InFlight.{InFlight}
 use Rattle.uv_machine.specs.declared.state.State.{State}
 use Rattle.uv_machine.specs.Objects.{is_kind, is_made, is_doomed, is_husk, on_object}
-use Rattle.uv_machine.specs.Plans.{plan_of, next_word, own_object, acted_on, looks_at, holds, is_number, with_refusal, with_number, with_look, with_made, with_outcome, with_lock, without_lock, without_number, without_look, moved_on}
+use Rattle.uv_machine.specs.Plans.{plan_of, next_word, own_object, acted_on, looks_at, holds, is_the_number, with_refusal, with_number, with_look, with_made, with_outcome, with_lock, without_lock, without_number, without_look, moved_on}
 use Rattle.uv_machine.specs.States.{call_of, has_others, holds_beside, is_excluded, is_unplugged, device_of, phase_of, is_quiet, is_tearing, is_fresh, is_removing}
-use Rattle.uv_machine.specs.Outside.{is_swept}
+use Rattle.uv_machine.specs.Outside.{may_sweep}
 use Rattle.uv_machine.specs.Effects.{act, made_outcome, finish, not_with_id, binding_of}
 use Rattle.uv_machine.specs.Reached.{IsIn, IsPhased, StandAlone, IsHeldFor, IsLeft, Reached}
 use Rattle.uv_machine.proofs.Members.{IsIn-map, Passes, Passes-filter}
@@ -63,13 +63,13 @@ lock_parts true false e = refl
 lock_parts false others e = absurd (none-some _ (sym e))
 
 holds_locked : (o : ℕ) (k : InFlight) → k.locked ≡ Some o → holds o (Some k) ≡ true
-holds_locked o k e = or_left (is_number o k.locked) (looks_at o k) (locks_it o k.locked e)
+holds_locked o k e = or_left (is_the_number o k.locked) (looks_at o k) (locks_it o k.locked e)
 
 or_cases : (a b : Bool) → (a || b) ≡ true → (a ≡ true) ⊎ (b ≡ true)
 or_cases true b h = inl refl
 or_cases false b h = inr h
 
-number_is : (o : ℕ) (l : Option ℕ) → is_number o l ≡ true → l ≡ Some o
+number_is : (o : ℕ) (l : Option ℕ) → is_the_number o l ≡ true → l ≡ Some o
 number_is o None h = absurd cc
 number_is o (Some n) h = ap (λ (v : ℕ). Some v) (eqb-true n o h)
 
@@ -87,11 +87,11 @@ module _ (m : State) (r : Reached m) (c : ℕ) (call : InFlight) (is : call_of m
         false_unless (holds o (Some k))
         (λ h. (
         let none = r.alone b c j call o is' is (λ same. ne (sym same)) e in
-        let parts = or_parts (is_number o call.locked) (looks_at o call) none in
+        let parts = or_parts (is_the_number o call.locked) (looks_at o call) none in
         ⊎_elim
         (λ own. (let yes = locks_it o call.locked (locked o (number_is o k.locked own)) in let no = parts.0 in cc))
         (λ look. (let yes = looked o look in let no = parts.1 in cc))
-        (or_cases (is_number o k.locked) (looks_at o k) h)));
+        (or_cases (is_the_number o k.locked) (looks_at o k) h)));
   }
 
   alone_looked : (o : ℕ) → is_excluded m o ≡ false → AloneOwn m c (with_look o call)
@@ -101,7 +101,7 @@ module _ (m : State) (r : Reached m) (c : ℕ) (call : InFlight) (is : call_of m
         false_unless (holds u (Some (with_look o call)))
         (λ h. (
         let none = r.alone b c j call u is' is (λ same. ne (sym same)) e in
-        let parts = or_parts (is_number u call.locked) (looks_at u call) none in
+        let parts = or_parts (is_the_number u call.locked) (looks_at u call) none in
         ⊎_elim
         (λ own. (let no = parts.0 in cc))
         (λ look.
@@ -109,7 +109,7 @@ module _ (m : State) (r : Reached m) (c : ℕ) (call : InFlight) (is : call_of m
         (λ old. (let no = parts.1 in cc))
         (λ new. (let yes : is_excluded m o ≡ true = ap (is_excluded m) new ∙ excluded_by m b j u is' e in cc))
         (any_ids_and u call.looked o look))
-        (or_cases (is_number u call.locked) (looks_at u (with_look o call)) h)));
+        (or_cases (is_the_number u call.locked) (looks_at u (with_look o call)) h)));
   }
 
   alone_made : (outcome : Answer) → AloneOwn m c (with_made m.made outcome call)
@@ -121,10 +121,10 @@ module _ (m : State) (r : Reached m) (c : ℕ) (call : InFlight) (is : call_of m
         (λ h. ⊎_elim
         (λ own. (let low = well.locked o (number_is o j.locked own) in omega arith))
         (λ look. (let low = well.looked o look in omega arith))
-        (or_cases (is_number o j.locked) (looks_at o j) h)));
+        (or_cases (is_the_number o j.locked) (looks_at o j) h)));
     helds = λ o b j ne is' e. (
         let none = r.alone b c j call o is' is (λ same. ne (sym same)) e in
-        let parts = or_parts (is_number o call.locked) (looks_at o call) none in
+        let parts = or_parts (is_the_number o call.locked) (looks_at o call) none in
         let low = (r.holds_well b j is').locked o e in
         false_unless (holds o (Some (with_made m.made outcome call)))
         (λ h. ⊎_elim
@@ -140,7 +140,7 @@ module _ (m : State) (r : Reached m) (c : ℕ) (call : InFlight) (is : call_of m
         ap (λ v. holds v (Some j)) (sym same) ∙ no_others m c o b j none is' ne);
     helds = λ u b j ne is' e. (
         let others = r.alone b c j call u is' is (λ same. ne (sym same)) e in
-        let parts = or_parts (is_number u call.locked) (looks_at u call) others in
+        let parts = or_parts (is_the_number u call.locked) (looks_at u call) others in
         false_unless (holds u (Some (with_lock o call)))
         (λ h. ⊎_elim
         (λ own. (
@@ -193,7 +193,7 @@ module _ (m : State) (r : Reached m) (c : ℕ) (call : InFlight) (is : call_of m
     files : SameFiles m m'
     files = same_files m c call a m' t
 
-    swept_stays : (f : ℕ) → is_swept m f ≡ true → is_swept m' f ≡ true
+    swept_stays : (f : ℕ) → may_sweep m f ≡ true → may_sweep m' f ≡ true
     swept_stays f swept =
         let parts = and_parts (is_tearing (phase_of m f)) (is_quiet m f) swept in
         both_true (ap is_tearing (files.phases f) ∙ parts.0) (quiet_turn m m' c call f is kt parts.1)
@@ -213,13 +213,13 @@ module _ (m : State) (r : Reached m) (c : ℕ) (call : InFlight) (is : call_of m
     making_old : (v : Word) → next_word call ≡ v → v ≢ Commit → (x : Object) → IsIn x m.objects → is_made x.phase ≡ true → IsHeldFor m' Commit x
     making_old v word ne x k h = stays v Commit x word ne (r.making x k h)
 
-    ending_as : (x : Object) → (IsHeldFor m Finish x → IsHeldFor m' Finish x) → IsIn x m.objects → is_doomed x.phase ≡ true → IsHeldFor m' Finish x ⊎ (is_swept m' x.file ≡ true)
+    ending_as : (x : Object) → (IsHeldFor m Finish x → IsHeldFor m' Finish x) → IsIn x m.objects → is_doomed x.phase ≡ true → IsHeldFor m' Finish x ⊎ (may_sweep m' x.file ≡ true)
     ending_as x held k h = ⊎_elim (λ e. inl (held e)) (λ e. inr (swept_stays x.file e)) (r.ending x k h)
 
-    ending_old : (v : Word) → next_word call ≡ v → v ≢ Finish → (x : Object) → IsIn x m.objects → is_doomed x.phase ≡ true → IsHeldFor m' Finish x ⊎ (is_swept m' x.file ≡ true)
+    ending_old : (v : Word) → next_word call ≡ v → v ≢ Finish → (x : Object) → IsIn x m.objects → is_doomed x.phase ≡ true → IsHeldFor m' Finish x ⊎ (may_sweep m' x.file ≡ true)
     ending_old v word ne x k h = ending_as x (stays v Finish x word ne) k h
 
-    husk_old : (x : Object) → IsIn x m.objects → is_husk x.phase ≡ true → (is_swept m' x.file ≡ true) ⊎ IsLeft m' x.file
+    husk_old : (x : Object) → IsIn x m.objects → is_husk x.phase ≡ true → (may_sweep m' x.file ≡ true) ⊎ IsLeft m' x.file
     husk_old x k h = ⊎_elim (λ e. inl (swept_stays x.file e)) (λ e. inr (left_stays x.file e)) (r.husks x k h)
 
     -- the objects behind a change
@@ -230,22 +230,22 @@ module _ (m : State) (r : Reached m) (c : ℕ) (call : InFlight) (is : call_of m
         let made : is_made x.phase ≡ true = on_object-made o change x (sym (ap (λ (z : Object). is_made z.phase) from.gives) ∙ h) in
         held_as m' Commit x y (ap (λ (z : Object). z.id) from.gives ∙ on_object-id o change x) (ap (λ (z : Object). z.file) from.gives ∙ on_object-file o change x) (making_old v word ne x from.within made)
 
-    ending_to : (x y : Object) → y.id ≡ x.id → y.file ≡ x.file → IsHeldFor m' Finish x ⊎ (is_swept m' x.file ≡ true) → IsHeldFor m' Finish y ⊎ (is_swept m' y.file ≡ true)
+    ending_to : (x y : Object) → y.id ≡ x.id → y.file ≡ x.file → IsHeldFor m' Finish x ⊎ (may_sweep m' x.file ≡ true) → IsHeldFor m' Finish y ⊎ (may_sweep m' y.file ≡ true)
     ending_to x y id file (inl h) = inl (held_as m' Finish x y id file h)
-    ending_to x y id file (inr h) = inr (ap (is_swept m') file ∙ h)
+    ending_to x y id file (inr h) = inr (ap (may_sweep m') file ∙ h)
 
-    ending_map : (o : ℕ) (change : Change) (v : Word) → next_word call ≡ v → v ≢ Finish → ((x : Object) → is_doomed (on_object o change x).phase ≡ true → is_doomed x.phase ≡ true) → (y : Object) → IsIn y (map (on_object o change) m.objects) → is_doomed y.phase ≡ true → IsHeldFor m' Finish y ⊎ (is_swept m' y.file ≡ true)
+    ending_map : (o : ℕ) (change : Change) (v : Word) → next_word call ≡ v → v ≢ Finish → ((x : Object) → is_doomed (on_object o change x).phase ≡ true → is_doomed x.phase ≡ true) → (y : Object) → IsIn y (map (on_object o change) m.objects) → is_doomed y.phase ≡ true → IsHeldFor m' Finish y ⊎ (may_sweep m' y.file ≡ true)
     ending_map o change v word ne before y k h =
         let from = IsIn-map (on_object o change) y m.objects k in
         let x = from.item in
         let doomed : is_doomed x.phase ≡ true = before x (sym (ap (λ (z : Object). is_doomed z.phase) from.gives) ∙ h) in
         ending_to x y (ap (λ (z : Object). z.id) from.gives ∙ on_object-id o change x) (ap (λ (z : Object). z.file) from.gives ∙ on_object-file o change x) (ending_old v word ne x from.within doomed)
 
-    husk_to : (x y : Object) → y.file ≡ x.file → (is_swept m' x.file ≡ true) ⊎ IsLeft m' x.file → (is_swept m' y.file ≡ true) ⊎ IsLeft m' y.file
-    husk_to x y file (inl h) = inl (ap (is_swept m') file ∙ h)
+    husk_to : (x y : Object) → y.file ≡ x.file → (may_sweep m' x.file ≡ true) ⊎ IsLeft m' x.file → (may_sweep m' y.file ≡ true) ⊎ IsLeft m' y.file
+    husk_to x y file (inl h) = inl (ap (may_sweep m') file ∙ h)
     husk_to x y file (inr h) = inr (let P : ℕ → Type 0 = λ f. IsLeft m' f in subst P (sym file) h)
 
-    husk_map : (o : ℕ) (change : Change) → ((x : Object) → is_husk (on_object o change x).phase ≡ true → is_husk x.phase ≡ true) → (y : Object) → IsIn y (map (on_object o change) m.objects) → is_husk y.phase ≡ true → (is_swept m' y.file ≡ true) ⊎ IsLeft m' y.file
+    husk_map : (o : ℕ) (change : Change) → ((x : Object) → is_husk (on_object o change x).phase ≡ true → is_husk x.phase ≡ true) → (y : Object) → IsIn y (map (on_object o change) m.objects) → is_husk y.phase ≡ true → (may_sweep m' y.file ≡ true) ⊎ IsLeft m' y.file
     husk_map o change before y k h =
         let from = IsIn-map (on_object o change) y m.objects k in
         let x = from.item in
@@ -338,7 +338,7 @@ module _ (m : State) (r : Reached m) (c : ℕ) (call : InFlight) (is : call_of m
 
   -- doomed objects
 
-  ending_act : (a : Answer) (m' : State) (t : Turn m c call a m') (what : request.Act) → next_word call ≡ Act → (y : Object) → IsIn y (act m c call a what).objects → is_doomed y.phase ≡ true → IsHeldFor m' Finish y ⊎ (is_swept m' y.file ≡ true)
+  ending_act : (a : Answer) (m' : State) (t : Turn m c call a m') (what : request.Act) → next_word call ≡ Act → (y : Object) → IsIn y (act m c call a what).objects → is_doomed y.phase ≡ true → IsHeldFor m' Finish y ⊎ (may_sweep m' y.file ≡ true)
   ending_act a m' t (Modify to attrs) word y k h = ending_old m r c call is a m' t Act word (λ e. cc) y k h
   ending_act a m' t Query word y k h = ending_old m r c call is a m' t Act word (λ e. cc) y k h
   ending_act a m' t (Bind offset long access) word y k h =
@@ -363,7 +363,7 @@ module _ (m : State) (r : Reached m) (c : ℕ) (call : InFlight) (is : call_of m
         same = sym ((r.holds_well c call is).placed (own_object call) owns x k e);
       }
 
-  checked_ending : (a : Answer) (m' : State) (t : Checked m c call m') (y : Object) → IsIn y (map (on_object (own_object call) ToDoomed) m.objects) → is_doomed y.phase ≡ true → IsHeldFor m' Finish y ⊎ (is_swept m' y.file ≡ true)
+  checked_ending : (a : Answer) (m' : State) (t : Checked m c call m') (y : Object) → IsIn y (map (on_object (own_object call) ToDoomed) m.objects) → is_doomed y.phase ≡ true → IsHeldFor m' Finish y ⊎ (may_sweep m' y.file ≡ true)
   checked_ending a m' t y k h =
       let o = own_object call in
       let from = IsIn-map (on_object o ToDoomed) y m.objects k in
@@ -375,7 +375,7 @@ module _ (m : State) (r : Reached m) (c : ℕ) (call : InFlight) (is : call_of m
       (λ old. ending_old m r c call is a m' (Checks t) Check (planned_word Check t.plan) (λ e. cc) x from.within old)
       (doomed-doomed o x doomed))
 
-  ending_turn : (a : Answer) (m' : State) → Turn m c call a m' → (y : Object) → IsIn y m'.objects → is_doomed y.phase ≡ true → IsHeldFor m' Finish y ⊎ (is_swept m' y.file ≡ true)
+  ending_turn : (a : Answer) (m' : State) → Turn m c call a m' → (y : Object) → IsIn y m'.objects → is_doomed y.phase ≡ true → IsHeldFor m' Finish y ⊎ (may_sweep m' y.file ≡ true)
   ending_turn a m' (Refuses t) y k h = ending_old m r c call is a m' (Refuses t) t.word (planned_word t.word t.plan) (refused_apart t.word Finish t.may refl) y (in_as m' _ y t.gives k) h
   ending_turn a m' (Reserves t) y k h = ending_old m r c call is a m' (Reserves t) Reserve (planned_word Reserve t.plan) (λ e. cc) y (in_as m' _ y t.gives k) h
   ending_turn a m' (Looks t) y k h = ending_old m r c call is a m' (Looks t) Look (planned_word Look t.plan) (λ e. cc) y (in_as m' _ y t.gives k) h
@@ -397,7 +397,7 @@ module _ (m : State) (r : Reached m) (c : ℕ) (call : InFlight) (is : call_of m
 
   -- husks
 
-  husk_act : (a : Answer) (m' : State) (t : Turn m c call a m') (what : request.Act) → (y : Object) → IsIn y (act m c call a what).objects → is_husk y.phase ≡ true → (is_swept m' y.file ≡ true) ⊎ IsLeft m' y.file
+  husk_act : (a : Answer) (m' : State) (t : Turn m c call a m') (what : request.Act) → (y : Object) → IsIn y (act m c call a what).objects → is_husk y.phase ≡ true → (may_sweep m' y.file ≡ true) ⊎ IsLeft m' y.file
   husk_act a m' t (Modify to attrs) y k h = husk_old m r c call is a m' t y k h
   husk_act a m' t Query y k h = husk_old m r c call is a m' t y k h
   husk_act a m' t (Bind offset long access) y k h =
@@ -406,7 +406,7 @@ module _ (m : State) (r : Reached m) (c : ℕ) (call : InFlight) (is : call_of m
   husk_act a m' t (Unbind offset long access) y k h = husk_map m r c call is a m' t (acted_on call) (ToBound None) (λ x d. bound-husk (acted_on call) x None d) y k h
   husk_act a m' t Async y k h = husk_old m r c call is a m' t y k h
 
-  husk_turn : (a : Answer) (m' : State) → Turn m c call a m' → (y : Object) → IsIn y m'.objects → is_husk y.phase ≡ true → (is_swept m' y.file ≡ true) ⊎ IsLeft m' y.file
+  husk_turn : (a : Answer) (m' : State) → Turn m c call a m' → (y : Object) → IsIn y m'.objects → is_husk y.phase ≡ true → (may_sweep m' y.file ≡ true) ⊎ IsLeft m' y.file
   husk_turn a m' (Refuses t) y k h = husk_old m r c call is a m' (Refuses t) y (in_as m' _ y t.gives k) h
   husk_turn a m' (Reserves t) y k h = husk_old m r c call is a m' (Reserves t) y (in_as m' _ y t.gives k) h
   husk_turn a m' (Looks t) y k h = husk_old m r c call is a m' (Looks t) y (in_as m' _ y t.gives k) h

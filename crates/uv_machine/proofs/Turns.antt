@@ -16,7 +16,7 @@ use Rattle.uv_num.specs.Request.{role_of}
 use Rattle.uv_machine.specs.declared.entry.Word.{Word}
 use Rattle.uv_machine.specs.declared.entry.Word.TheVariants.{Reserve, Look, Make, Commit, Act, Lock, Check, Finish, Abort, Free, Exit}
 use Rattle.uv_machine.specs.declared.entry.Answer.{Answer}
-use Rattle.uv_machine.specs.declared.entry.Done.{Done}
+use Rattle.uv_machine.specs.declared.entry.CallStep.{CallStep}
 use Rattle.uv_machine.specs.declared.entry.Entry.TheVariants.{Step}
 use Rattle.uv_machine.specs.declared.object.Object.{Object}
 use Rattle.uv_machine.specs.declared.call.InFlight.{InFlight}
@@ -44,13 +44,13 @@ module _ (m : State) (c : ℕ) (w : Word) (o : ℕ) (found : Option QpState) (a 
   IsStepOf-from None e = absurd (none-some _ e)
   IsStepOf-from (Some call) e =
       let same = same_Some _ _ e in
-      let word : next_word call ≡ w = ap (λ (d : Done). d.word) same in
+      let word : next_word call ≡ w = ap (λ (d : CallStep). d.word) same in
       record {
         call = call;
         is = refl;
         word = word;
-        object = rw word at (ap (λ (d : Done). d.object) same);
-        answer = rw word at (ap (λ (d : Done). d.answer) same);
+        object = rw word at (ap (λ (d : CallStep). d.object) same);
+        answer = rw word at (ap (λ (d : CallStep). d.answer) same);
       }
 
   pub IsStepOf-allowed : Allowed m (Step c w o found a) → IsStepOf m c (call_of m c) w o found a

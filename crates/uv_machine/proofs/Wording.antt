@@ -25,11 +25,11 @@ use Rattle.uv_machine.specs.declared.entry.Entry.{Entry}
 use Rattle.uv_machine.specs.declared.entry.Entry.TheVariants.{Open, Enter, Step, Unplug, Tear, Kill, Gone, Dissociated, Closed}
 use Rattle.uv_machine.specs.declared.call.InFlight.{InFlight}
 use Rattle.uv_machine.specs.declared.state.State.{State}
-use Rattle.uv_machine.specs.Accounts.{words_ahead, word_steps, is_make, abort_steps, steps_back, steps_on, makes_ahead, steps_behind, steps_ahead}
+use Rattle.uv_machine.specs.Accounts.{words_ahead, word_steps, is_make, count_of, steps_back, steps_on, makes_ahead, steps_behind, steps_ahead}
 use Rattle.uv_machine.specs.Effects.{refusal_in, made_outcome}
 use Rattle.uv_machine.specs.Histories.{Allowed, after, kept_in, IsLegalFrom, state_from, state_of}
 use Rattle.uv_machine.specs.Plans.{plan_of, plan_for, next_word, look_ask, closing, freeing, with_refusal, with_number, with_look, with_made, with_outcome, with_lock, without_lock, without_number, without_look, moved_on}
-use Rattle.uv_machine.specs.Reached.{look_count, count_of, HasInCreate, HasInDestroy, HasInAct, HasInPlan, IsPhased, Reached}
+use Rattle.uv_machine.specs.Reached.{look_count, HasInCreate, HasInDestroy, HasInAct, HasInPlan, IsPhased, Reached}
 use Rattle.uv_machine.specs.Acts.{act_answer}
 use Rattle.uv_machine.specs.States.{call_of, start}
 use Rattle.uv_machine.specs.Steps.{told, look_told, step_answer}
@@ -364,7 +364,7 @@ length-free_words : (n : ℕ) → length (free_words n) ≡ n + 1
 length-free_words zero = refl
 length-free_words (suc n) = omega (arith, length-free_words n)
 
-length-abort_words : (number : Option ℕ) → length (abort_words number) ≡ abort_steps number
+length-abort_words : (number : Option ℕ) → length (abort_words number) ≡ count_of number
 length-abort_words None = refl
 length-abort_words (Some n) = refl
 
@@ -401,7 +401,7 @@ on_length call true p fine makes =
     omega (arith, length-append (words_ahead call) (free_words (length (ids_of call.looked) + count_by is_look (words_ahead call))), length-free_words (length (ids_of call.looked) + count_by is_look (words_ahead call)), steps_of_words (words_ahead call))
 on_length call false p fine makes =
     let number = no_number call.reserved (none_ahead call (role_of call.request) (looks_in call) (plan_has call p fine) makes) in
-    let aborts : abort_steps call.reserved ≡ 0 = ap abort_steps number in
+    let aborts : count_of call.reserved ≡ 0 = ap count_of number in
     omega (arith, length-append (words_ahead call) (free_words (length (ids_of call.looked) + count_by is_look (words_ahead call))), length-free_words (length (ids_of call.looked) + count_by is_look (words_ahead call)), steps_of_words (words_ahead call), aborts)
 
 call_length : (call : InFlight) (r : Option Errno) → call.refusal ≡ r → IsPhased call → steps_behind call r ≡ length (words_by call r)

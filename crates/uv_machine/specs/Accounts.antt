@@ -53,10 +53,10 @@ is_make Abort = false
 is_make Free = false
 is_make Exit = false
 
--- an abort where a number is set aside
-abbrev pub abort_steps : Option ℕ → ℕ
-abort_steps None = 0
-abort_steps (Some number) = 1
+-- a number that is set aside, or an object that is held exclusively: an abort, for the first
+abbrev pub count_of : Option ℕ → ℕ
+count_of None = 0
+count_of (Some number) = 1
 
 -- a free for what is looked at, and the exit
 abbrev pub free_steps : InFlight → ℕ
@@ -64,7 +64,7 @@ free_steps call = length (ids_of call.looked) + 1
 
 -- the steps behind a refusal
 abbrev pub steps_back : InFlight → ℕ
-steps_back call = abort_steps call.reserved + free_steps call
+steps_back call = count_of call.reserved + free_steps call
 
 -- the steps of the plan and its end, where a Make is ahead or not: a number that is set aside is the new object's
 abbrev pub steps_on : Bool → InFlight → ℕ
@@ -119,14 +119,14 @@ file_phase_owes file.Closed = 0
 abbrev pub file_owes : File → ℕ
 file_owes x = file_phase_owes x.phase
 
--- a device that is plugged in can be pulled
-abbrev pub device_owes : Bool → ℕ
-device_owes true = 1
-device_owes false = 0
+-- 1 where it is so: as a device that is plugged in, which can be pulled
+abbrev pub one_if : Bool → ℕ
+one_if true = 1
+one_if false = 0
 
 -- the entries that can still come without another Open or Enter
 abbrev pub owed : State → ℕ
-owed m = sum_by device_owes m.plugged + sum_by file_owes m.files + sum_by object_owes m.objects + sum_by call_owes m.calls
+owed m = sum_by one_if m.plugged + sum_by file_owes m.files + sum_by object_owes m.objects + sum_by call_owes m.calls
 
 -- what an entry takes: itself, and what it makes the state owe
 abbrev pub unless_refused_costs : Option Errno → ℕ → ℕ
@@ -145,10 +145,6 @@ costs (Dissociated f) = 0
 costs (Closed f) = 0
 
 -- The Makes to come.
-
-abbrev pub one_if : Bool → ℕ
-one_if true = 1
-one_if false = 0
 
 abbrev pub making_comes : InFlight → Option Errno → ℕ
 making_comes call None = one_if (makes_ahead call)

@@ -30,24 +30,24 @@ is_event answer.Event = true
 is_event (answer.Kept kept) = false
 is_event (answer.Refused e) = false
 
-abbrev pub is_act : Word → Bool
-is_act word.Reserve = false
-is_act word.Look = false
-is_act word.Make = false
-is_act word.Commit = false
-is_act word.Act = true
-is_act word.Lock = false
-is_act word.Check = false
-is_act word.Finish = false
-is_act word.Abort = false
-is_act word.Free = false
-is_act word.Exit = false
+abbrev pub is_act_word : Word → Bool
+is_act_word word.Reserve = false
+is_act_word word.Look = false
+is_act_word word.Make = false
+is_act_word word.Commit = false
+is_act_word word.Act = true
+is_act_word word.Lock = false
+is_act_word word.Check = false
+is_act_word word.Finish = false
+is_act_word word.Abort = false
+is_act_word word.Free = false
+is_act_word word.Exit = false
 
 -- the entry takes an event of the file
 abbrev pub takes_event : State → ℕ → Entry → Bool
 takes_event m f (Open c g d a) = false
 takes_event m f (Enter c g request a) = false
-takes_event m f (Step c w o found a) = is_act w && (is_event a && is_call_on f (call_of m c))
+takes_event m f (Step c w o found a) = is_act_word w && (is_event a && is_call_on f (call_of m c))
 takes_event m f (Unplug d) = false
 takes_event m f (Tear g by) = false
 takes_event m f (Kill o) = false

@@ -31,8 +31,8 @@ abbrev pub client_in : Option File → ℕ
 client_in None = 0
 client_in (Some x) = x.client
 
-abbrev pub client_of : State → ℕ → ℕ
-client_of m f = client_in (slice_get m.files f)
+abbrev pub client_of_file : State → ℕ → ℕ
+client_of_file m f = client_in (slice_get m.files f)
 
 -- a phase stays, or goes on to the next one: a file is opened, torn, and then closed by who tears it down; the driver leaves
 -- it dissociated, and then it may be torn once more, by another
@@ -70,7 +70,7 @@ PhaseGoesOn = (m : State) (e : Entry) (f : ℕ) → Allowed m e → goes_on_to (
 abbrev pub OpenedStays : Type 0
 OpenedStays =
     (m : State) (e : Entry) (f : ℕ) → Allowed m e → is_fresh (phase_of m f) ≡ false
-    → (device_of (after m e) f ≡ device_of m f) × (client_of (after m e) f ≡ client_of m f)
+    → (device_of (after m e) f ≡ device_of m f) × (client_of_file (after m e) f ≡ client_of_file m f)
 
 -- a file that is torn down, or closed, was torn; and who closes one is another than the driver
 pub record WasTorn (h : List Entry) (f : ℕ) : Type 0 where

@@ -5,7 +5,7 @@ use Rattle.uv_machine.specs.declared.entry.Entry.{Entry}
 use Rattle.uv_machine.specs.declared.entry.Entry.TheVariants.{Open, Enter, Step, Unplug, Tear, Kill, Gone, Dissociated, Closed}
 use Rattle.uv_machine.specs.declared.entry.Answer.{Answer}
 use Rattle.uv_machine.specs.declared.entry.Answer.TheVariants as answer
-use Rattle.uv_machine.specs.declared.entry.Done.{Done}
+use Rattle.uv_machine.specs.declared.entry.CallStep.{CallStep}
 use Rattle.uv_machine.specs.declared.file.FilePhase.TheVariants as file
 use Rattle.uv_machine.specs.declared.state.State.{State}
 use Rattle.uv_machine.specs.Plans.{entered}
@@ -28,7 +28,7 @@ kept_in (answer.Kept kept) = kept
 kept_in (answer.Refused e) = 0
 
 -- the step of an actor's call is this one, with the state that it found and what it kept
-abbrev pub IsNext : State → ℕ → Done → Type 0
+abbrev pub IsNext : State → ℕ → CallStep → Type 0
 IsNext m c d = next_of m c d.found (kept_in d.answer) ≡ Some d
 
 -- the machine allows this entry now

@@ -21,7 +21,7 @@ use Rattle.uv_machine.specs.declared.file.FilePhase.TheVariants as file
 use Rattle.uv_machine.specs.declared.call.InFlight.{InFlight}
 use Rattle.uv_machine.specs.declared.state.State.{State}
 use Rattle.uv_machine.specs.declared.object.Change.TheVariants.{ToDoomed}
-use Rattle.uv_machine.specs.Objects.{is_live_in, is_standing_in, changed}
+use Rattle.uv_machine.specs.Objects.{is_live_in, is_standing_in, with_change}
 use Rattle.uv_machine.specs.Plans.{entered}
 use Rattle.uv_machine.specs.States.{call_of, object_with, home_cell, phase_of, has_users, has_doomed, newest_free, is_quiet}
 use Rattle.uv_machine.specs.Effects.{refusal_in}
@@ -169,7 +169,7 @@ FindsFree =
 abbrev pub SweepShows : Type 0
 SweepShows =
     (h : List Entry) (f by : ℕ) (x : Object) → IsSwept h f by → newest_free (state_of h) f ≡ Some x
-    → (object_with (state_of (h ++ Kill x.id ∷ [])) x.id ≡ Some (changed ToDoomed x)) × (x.file ≡ f)
+    → (object_with (state_of (h ++ Kill x.id ∷ [])) x.id ≡ Some (with_change ToDoomed x)) × (x.file ≡ f)
 
 -- Files: what is opened stands open, and calls and the releases of objects leave every file's phase.
 

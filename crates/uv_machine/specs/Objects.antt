@@ -119,12 +119,12 @@ bound_uses None uses = first_alone uses
 bound_uses (Some binding) uses = ids_and (first_alone uses) binding.region
 
 -- an object after a change
-abbrev pub changed : Change → Object → Object
-changed ToLive x = record x { phase = live_from x.phase }
-changed ToDoomed x = record x { phase = doomed_from x.phase }
-changed ToHusk x = record x { phase = phase.Husk; uses = no_ids; binding = None }
-changed (ToBound binding) x = record x { uses = bound_uses binding x.uses; binding = binding }
+abbrev pub with_change : Change → Object → Object
+with_change ToLive x = record x { phase = live_from x.phase }
+with_change ToDoomed x = record x { phase = doomed_from x.phase }
+with_change ToHusk x = record x { phase = phase.Husk; uses = no_ids; binding = None }
+with_change (ToBound binding) x = record x { uses = bound_uses binding x.uses; binding = binding }
 
 -- an object after a change of the one with this id
 abbrev pub on_object : ℕ → Change → Object → Object
-on_object o change x = if has_id o x then changed change x else x
+on_object o change x = if has_id o x then with_change change x else x

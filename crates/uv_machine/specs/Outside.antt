@@ -52,8 +52,8 @@ abbrev pub may_tear : State → ℕ → ℕ → Bool
 may_tear m f by = if by == DRIVER then is_open (phase_of m f) && is_unplugged m (device_of m f) else is_callable (phase_of m f)
 
 -- an object's file is being torn down and no call on it is in flight
-abbrev pub is_swept : State → ℕ → Bool
-is_swept m f = is_tearing (phase_of m f) && is_quiet m f
+abbrev pub may_sweep : State → ℕ → Bool
+may_sweep m f = is_tearing (phase_of m f) && is_quiet m f
 
 abbrev pub is_object : ℕ → Option Object → Bool
 is_object o None = false
@@ -61,7 +61,7 @@ is_object o (Some x) = has_id o x
 
 -- users first, newest first, one at a time
 abbrev pub may_kill_in : State → ℕ → ℕ → Bool
-may_kill_in m o f = is_swept m f && (not (has_doomed m f) && is_object o (newest_free m f))
+may_kill_in m o f = may_sweep m f && (not (has_doomed m f) && is_object o (newest_free m f))
 
 abbrev pub may_kill_object : State → ℕ → Option Object → Bool
 may_kill_object m o None = false
@@ -72,7 +72,7 @@ may_kill m o = may_kill_object m o (object_with m o)
 
 abbrev pub may_go_object : State → Option Object → Bool
 may_go_object m None = false
-may_go_object m (Some x) = is_doomed x.phase && is_swept m x.file
+may_go_object m (Some x) = is_doomed x.phase && may_sweep m x.file
 
 abbrev pub may_go : State → ℕ → Bool
 may_go m o = may_go_object m (object_with m o)

@@ -62,19 +62,19 @@ entered f request =
 -- What a call holds.
 
 -- an optional number is this one
-abbrev pub is_number : ℕ → Option ℕ → Bool
-is_number n None = false
-is_number n (Some k) = k == n
+abbrev pub is_the_number : ℕ → Option ℕ → Bool
+is_the_number n None = false
+is_the_number n (Some k) = k == n
 
 -- the call in a place of the table has set this number of the file aside
 abbrev pub reserves : ℕ → ℕ → Option InFlight → Bool
 reserves f n None = false
-reserves f n (Some call) = (call.file == f) && is_number n call.reserved
+reserves f n (Some call) = (call.file == f) && is_the_number n call.reserved
 
 -- the call in a place of the table holds this object exclusively
 abbrev pub locks : ℕ → Option InFlight → Bool
 locks o None = false
-locks o (Some call) = is_number o call.locked
+locks o (Some call) = is_the_number o call.locked
 
 -- the call looks at this object
 abbrev pub looks_at : ℕ → InFlight → Bool
@@ -83,7 +83,7 @@ looks_at o call = list_any (ids.is_number o) (ids.ids_of call.looked)
 -- the call in a place of the table holds this object, exclusively or not
 abbrev pub holds : ℕ → Option InFlight → Bool
 holds o None = false
-holds o (Some call) = is_number o call.locked || looks_at o call
+holds o (Some call) = is_the_number o call.locked || looks_at o call
 
 -- the call in a place of the table is on this file
 abbrev pub is_call_on : ℕ → Option InFlight → Bool

@@ -1,4 +1,5 @@
 -- What is true of every state that a legal history leads to.
+use Rattle.uv_machine.specs.Accounts.{count_of}
 use Rattle.std.specs.Prelude.{ℕ, Bool, true, false, ◌≡◌, ◌≢◌, ◌≤◌, ◌<◌, ◌+◌, ◌-◌, ◌||◌, ◌⊎◌, List, [], ◌∷◌, Option, None, Some, length, slice_get, count_by}
 use Rattle.uv_num.specs.declared.errno.Errno.{Errno}
 use Rattle.uv_num.specs.declared.limits.TheConstants.{ACTOR_PLACES, CELLS, FILES, HANDLES, MOST_OBJECTS}
@@ -20,7 +21,7 @@ use Rattle.uv_machine.specs.declared.state.State.{State}
 use Rattle.uv_machine.specs.Objects.{is_made, is_live, is_doomed, is_husk, has_handle, uses_object, no_ids}
 use Rattle.uv_machine.specs.Plans.{next_word, looks_at, holds, reserves}
 use Rattle.uv_machine.specs.States.{call_of, phase_of, device_of, is_unplugged, is_fresh, is_removing}
-use Rattle.uv_machine.specs.Outside.{is_swept}
+use Rattle.uv_machine.specs.Outside.{may_sweep}
 
 -- an item is one of a list
 abbrev pub IsIn : {X : Type 0} → X → List X → Type 0
@@ -28,11 +29,6 @@ IsIn x [] = ⊥
 IsIn x (y ∷ ys) = (x ≡ y) ⊎ IsIn x ys
 
 -- Calls: what one has and holds, by its place in its plan.
-
--- a number that is set aside, or an object that is held exclusively
-abbrev pub count_of : Option ℕ → ℕ
-count_of None = 0
-count_of (Some n) = 1
 
 abbrev pub look_count : InFlight → ℕ
 look_count call = length (ids_of call.looked)
@@ -171,14 +167,14 @@ is_held_at Abort p = is_live p || is_husk p
 is_held_at Free p = is_live p || is_husk p
 is_held_at Exit p = is_live p || is_husk p
 
-pub record StandsFor (w : Word) (objects : List Object) (o : ℕ) : Type 0 where
+pub record IsInPhaseFor (w : Word) (objects : List Object) (o : ℕ) : Type 0 where
   pub item : Object
   pub within : IsIn item objects
   pub id : item.id ≡ o
   pub held : is_held_at w item.phase ≡ true
 
 abbrev pub OwnStands : State → Type 0
-OwnStands m = (b o : ℕ) (k : InFlight) → call_of m b ≡ Some k → k.locked ≡ Some o → StandsFor (next_word k) m.objects o
+OwnStands m = (b o : ℕ) (k : InFlight) → call_of m b ≡ Some k → k.locked ≡ Some o → IsInPhaseFor (next_word k) m.objects o
 
 -- What a call looks at, and what an object uses, stands there and is live, in the file of the call or the object.
 
@@ -246,8 +242,8 @@ pub record Reached (m : State) : Type 0 where
   -- an object that isn't committed has a call that is about to commit it
   pub making : (x : Object) → IsIn x m.objects → is_made x.phase ≡ true → IsHeldFor m Commit x
   -- a doomed object has a call that is about to finish it, or its file is being swept
-  pub ending : (x : Object) → IsIn x m.objects → is_doomed x.phase ≡ true → IsHeldFor m Finish x ⊎ (is_swept m x.file ≡ true)
+  pub ending : (x : Object) → IsIn x m.objects → is_doomed x.phase ≡ true → IsHeldFor m Finish x ⊎ (may_sweep m x.file ≡ true)
   -- a husk's file is being swept, or its device is gone
-  pub husks : (x : Object) → IsIn x m.objects → is_husk x.phase ≡ true → (is_swept m x.file ≡ true) ⊎ IsLeft m x.file
+  pub husks : (x : Object) → IsIn x m.objects → is_husk x.phase ≡ true → (may_sweep m x.file ≡ true) ⊎ IsLeft m x.file
   -- the driver tears down files of devices that are gone
   pub removing : (f : ℕ) → is_removing (phase_of m f) ≡ true → is_unplugged m (device_of m f) ≡ true

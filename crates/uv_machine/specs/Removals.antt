@@ -11,7 +11,7 @@ use Rattle.uv_machine.specs.Accounts.{one_if}
 use Rattle.uv_machine.specs.Histories.{Allowed, after, IsLegal, state_of}
 use Rattle.uv_machine.specs.Laws.{IsSwept, standing_count}
 use Rattle.uv_machine.specs.Objects.{in_file, is_live_in}
-use Rattle.uv_machine.specs.Outside.{is_swept}
+use Rattle.uv_machine.specs.Outside.{may_sweep}
 use Rattle.uv_machine.specs.States.{object_with, phase_of, is_quiet, newest_free}
 
 -- The words.
@@ -37,16 +37,16 @@ kills_of m f (Dissociated k) = false
 kills_of m f (Closed k) = false
 
 -- the entry releases an object of the file, in a teardown
-abbrev pub gone_of : State → ℕ → Entry → Bool
-gone_of m f (Open c k d a) = false
-gone_of m f (Enter c k request a) = false
-gone_of m f (Step c w o found a) = false
-gone_of m f (Unplug d) = false
-gone_of m f (Tear k by) = false
-gone_of m f (Kill o) = false
-gone_of m f (Gone o kept) = is_of_file f (object_with m o)
-gone_of m f (Dissociated k) = false
-gone_of m f (Closed k) = false
+abbrev pub goes_from : State → ℕ → Entry → Bool
+goes_from m f (Open c k d a) = false
+goes_from m f (Enter c k request a) = false
+goes_from m f (Step c w o found a) = false
+goes_from m f (Unplug d) = false
+goes_from m f (Tear k by) = false
+goes_from m f (Kill o) = false
+goes_from m f (Gone o kept) = is_of_file f (object_with m o)
+goes_from m f (Dissociated k) = false
+goes_from m f (Closed k) = false
 
 -- the entry ends the teardown of the file
 abbrev pub ends_of : ℕ → Entry → Bool
@@ -67,7 +67,7 @@ kills_through m f (e ∷ es) = one_if (kills_of m f e) + kills_through (after m 
 
 abbrev pub gone_through : State → ℕ → List Entry → ℕ
 gone_through m f [] = 0
-gone_through m f (e ∷ es) = one_if (gone_of m f e) + gone_through (after m e) f es
+gone_through m f (e ∷ es) = one_if (goes_from m f e) + gone_through (after m e) f es
 
 -- The laws.
 
@@ -80,18 +80,18 @@ SweepTakesOne =
 -- a file that is torn down and on which no call is in flight stays so until its teardown ends
 abbrev pub TornStaysQuiet : Type 0
 TornStaysQuiet =
-    (m : State) (e : Entry) (f : ℕ) → Allowed m e → is_swept m f ≡ true → ends_of f e ≡ false
+    (m : State) (e : Entry) (f : ℕ) → Allowed m e → may_sweep m f ≡ true → ends_of f e ≡ false
     → (phase_of (after m e) f ≡ phase_of m f) × (is_quiet (after m e) f ≡ true)
 
 -- its objects that stand get fewer by one exactly at a Gone of one of them, and those that are live at a Kill
 abbrev pub ReleasesCount : Type 0
 ReleasesCount =
-    (h : List Entry) (e : Entry) (f : ℕ) → IsLegal h → Allowed (state_of h) e → is_swept (state_of h) f ≡ true
-    → standing_count (state_of (h ++ e ∷ [])) f + one_if (gone_of (state_of h) f e) ≡ standing_count (state_of h) f
+    (h : List Entry) (e : Entry) (f : ℕ) → IsLegal h → Allowed (state_of h) e → may_sweep (state_of h) f ≡ true
+    → standing_count (state_of (h ++ e ∷ [])) f + one_if (goes_from (state_of h) f e) ≡ standing_count (state_of h) f
 
 abbrev pub KillsCount : Type 0
 KillsCount =
-    (h : List Entry) (e : Entry) (f : ℕ) → IsLegal h → Allowed (state_of h) e → is_swept (state_of h) f ≡ true
+    (h : List Entry) (e : Entry) (f : ℕ) → IsLegal h → Allowed (state_of h) e → may_sweep (state_of h) f ≡ true
     → live_count (state_of (h ++ e ∷ [])) f + one_if (kills_of (state_of h) f e) ≡ live_count (state_of h) f
 
 -- a teardown of a file without calls, from its Tear to its end: as many Kills and as many Gones as objects stood

@@ -15,7 +15,7 @@ use Rattle.uv_machine.specs.declared.entry.Word.{Word}
 use Rattle.uv_machine.specs.declared.entry.Word.TheVariants.{Reserve, Look, Make, Commit, Act, Lock, Check, Finish, Abort, Free, Exit}
 use Rattle.uv_machine.specs.declared.entry.Answer.{Answer}
 use Rattle.uv_machine.specs.declared.entry.Answer.TheVariants as answer
-use Rattle.uv_machine.specs.declared.entry.Done.{Done}
+use Rattle.uv_machine.specs.declared.entry.CallStep.{CallStep}
 use Rattle.uv_machine.specs.declared.object.Object.{Object}
 use Rattle.uv_machine.specs.declared.call.InFlight.{InFlight}
 use Rattle.uv_machine.specs.declared.state.State.{State}
@@ -166,16 +166,16 @@ found_at call Abort found = None
 found_at call Free found = None
 found_at call Exit found = None
 
-abbrev pub done_as : State → InFlight → Option QpState → ℕ → Word → Told → Done
+abbrev pub done_as : State → InFlight → Option QpState → ℕ → Word → Told → CallStep
 done_as m call found kept w t = record { word = w; object = t.object; found = found_at call w found; answer = step_answer m call found kept w t.refusal }
 
-abbrev pub step_of : State → ℕ → Option QpState → ℕ → InFlight → Done
+abbrev pub step_of : State → ℕ → Option QpState → ℕ → InFlight → CallStep
 step_of m c found kept call = done_as m call found kept (next_word call) (told m c call found (next_word call))
 
-abbrev pub next_from : State → ℕ → Option QpState → ℕ → Option InFlight → Option Done
+abbrev pub next_from : State → ℕ → Option QpState → ℕ → Option InFlight → Option CallStep
 next_from m c found kept None = None
 next_from m c found kept (Some call) = Some (step_of m c found kept call)
 
 -- the step that an actor's call makes next; `found` is the state that an act finds, `kept` what a finish keeps
-abbrev pub next_of : State → ℕ → Option QpState → ℕ → Option Done
+abbrev pub next_of : State → ℕ → Option QpState → ℕ → Option CallStep
 next_of m c found kept = next_from m c found kept (call_of m c)

@@ -12,7 +12,7 @@ use Rattle.uv_num.specs.Ids.{ids_of}
 use Rattle.uv_num.specs.Request.{role_of}
 use Rattle.uv_machine.specs.declared.entry.Answer.{Answer}
 use Rattle.uv_machine.specs.declared.entry.Answer.TheVariants as answer
-use Rattle.uv_machine.specs.declared.entry.Done.{Done}
+use Rattle.uv_machine.specs.declared.entry.CallStep.{CallStep}
 use Rattle.uv_machine.specs.declared.entry.Entry.{Entry}
 use Rattle.uv_machine.specs.declared.entry.Entry.TheVariants.{Open, Enter, Step, Unplug, Tear, Kill, Gone, Dissociated, Closed}
 use Rattle.uv_machine.specs.declared.entry.Word.{Word}
@@ -23,7 +23,7 @@ use Rattle.uv_machine.specs.Accounts.{words_ahead, steps_ahead}
 use Rattle.uv_machine.specs.Calls.{calls_of}
 use Rattle.uv_machine.specs.Effects.{refusal_in}
 use Rattle.uv_machine.specs.Histories.{Allowed, after, IsLegal, state_of}
-use Rattle.uv_machine.specs.Plans.{is_number}
+use Rattle.uv_machine.specs.Plans.{is_the_number}
 use Rattle.uv_machine.specs.States.{call_of}
 
 -- The words to come.
@@ -143,7 +143,7 @@ StepKeepsRequest =
 
 -- The steps of an actor's last call, from its Enter on.
 
-abbrev pub steps_with : ℕ → List Done → Entry → List Done
+abbrev pub steps_with : ℕ → List CallStep → Entry → List CallStep
 steps_with c steps (Open b f d a) = steps
 steps_with c steps (Enter b f request a) = if b == c then [] else steps
 steps_with c steps (Step b w o found a) = if b == c then steps ++ record { word = w; object = o; found = found; answer = a } ∷ [] else steps
@@ -154,15 +154,15 @@ steps_with c steps (Gone o kept) = steps
 steps_with c steps (Dissociated f) = steps
 steps_with c steps (Closed f) = steps
 
-abbrev pub steps_from : ℕ → List Done → List Entry → List Done
+abbrev pub steps_from : ℕ → List CallStep → List Entry → List CallStep
 steps_from c steps [] = steps
 steps_from c steps (e ∷ es) = steps_from c (steps_with c steps e) es
 
-abbrev pub steps_of : List Entry → ℕ → List Done
-steps_of h c = steps_from c [] h
+abbrev pub steps_of_call : List Entry → ℕ → List CallStep
+steps_of_call h c = steps_from c [] h
 
 -- a step that carries no state
-abbrev pub step_done : Word → ℕ → Answer → Done
+abbrev pub step_done : Word → ℕ → Answer → CallStep
 step_done w o a = record { word = w; object = o; found = None; answer = a }
 
 -- How a destroy ends, read off its own steps: it was refused by its Lock, with ENOENT, EINVAL or EBUSY; or by its Check, with
@@ -171,7 +171,7 @@ step_done w o a = record { word = w; object = o; found = None; answer = a }
 abbrev pub is_lock_errno : Errno → Type 0
 is_lock_errno e = (e ≡ NoEnt) ⊎ ((e ≡ Inval) ⊎ (e ≡ Busy))
 
-pub data DestroyEnd (steps : List Done) (a : Answer) : Type 0 where
+pub data DestroyEnd (steps : List CallStep) (a : Answer) : Type 0 where
   AtLock : (o : ℕ) (e : Errno) → is_lock_errno e → steps ≡ step_done Lock o (answer.Refused e) ∷ [] → a ≡ answer.Refused e → DestroyEnd steps a
   AtCheck : (o : ℕ) → steps ≡ step_done Lock o answer.Ok ∷ step_done Check o (answer.Refused Busy) ∷ [] → a ≡ answer.Refused Busy → DestroyEnd steps a
   AtFinish : (o kept : ℕ) → steps ≡ step_done Lock o answer.Ok ∷ step_done Check o answer.Ok ∷ step_done Finish o (answer.Kept kept) ∷ [] → a ≡ answer.Ok → DestroyEnd steps a
@@ -179,7 +179,7 @@ pub data DestroyEnd (steps : List Done) (a : Answer) : Type 0 where
 abbrev pub DestroyEnds : Type 0
 DestroyEnds =
     (h : List Entry) (c o : ℕ) (found : Option QpState) (a : Answer) (call : InFlight) (asked : Ask) → IsLegal h → call_of (state_of h) c ≡ Some call
-    → role_of call.request ≡ Destroys asked → Allowed (state_of h) (Step c Exit o found a) → DestroyEnd (steps_of h c) a
+    → role_of call.request ≡ Destroys asked → Allowed (state_of h) (Step c Exit o found a) → DestroyEnd (steps_of_call h c) a
 
 -- Entries that don't name an actor leave its calls.
 
@@ -196,7 +196,7 @@ names (Dissociated f) = None
 names (Closed f) = None
 
 abbrev pub names_actor : ℕ → Entry → Bool
-names_actor c e = is_number c (names e)
+names_actor c e = is_the_number c (names e)
 
 abbrev pub CallSilent : Type 0
 CallSilent =

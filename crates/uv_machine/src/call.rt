@@ -2,7 +2,7 @@
 
 ghost use Rattle.std.specs.Prelude.{◌≡◌, [], ◌∷◌, ◌++◌, length, replicate, slice_get};
 ghost use Rattle.uv_machine.specs.declared.entry.Word.TheVariants.{Reserve, Look, Make, Commit, Act, Lock, Check, Finish};
-ghost use Rattle.uv_machine.specs.Plans.{entered, plan_of, plan_for, freeing, closing_word, closing, next_word, is_number, locks, looks_at, holds, is_call_on, own_object, looked_at, acted_on, look_ask, call_answer, next_place, moved_on, with_made, call_changed};
+ghost use Rattle.uv_machine.specs.Plans.{entered, plan_of, plan_for, freeing, closing_word, closing, next_word, is_the_number, locks, looks_at, holds, is_call_on, own_object, looked_at, acted_on, look_ask, call_answer, next_place, moved_on, with_made, call_changed};
 
 use crate::entry::{Answer, Word};
 use uv_num::{Ask, Changes, Errno, Ids, NONE, Request, Role};
@@ -181,7 +181,7 @@ fn closing_word(reserved: Option<u32>, looked: Ids) -> Word
 }
 
 fn is_number(number: Option<u32>, n: u32) -> bool
-    ensures { result ≡ is_number n number }
+    ensures { result ≡ is_the_number n number }
 {
     match number {
         None => false,

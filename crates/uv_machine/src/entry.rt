@@ -109,7 +109,7 @@ pub enum Entry {
 
 /// A step that a call makes, without its client.
 #[derive(Clone, Copy, Debug, PartialEq)]
-pub struct Done {
+pub struct CallStep {
     pub word: Word,
     pub object: u32,
     pub found: Option<QpState>,

@@ -5,7 +5,7 @@ ghost use Rattle.uv_num.specs.declared.limits.TheConstants.{FILES, DEVICES};
 ghost use Rattle.uv_machine.specs.declared.entry.Entry.TheVariants.{Open, Enter, Step, Unplug, Tear};
 ghost use Rattle.uv_machine.specs.Histories.{IsActor, kept_in, IsNext, Allowed, IsLegal, IsFirstBad};
 
-use crate::entry::{Answer, Done, Entry, Word};
+use crate::entry::{Answer, CallStep, Entry, Word};
 use crate::outside::{
     enter_refusal, may_answer, may_close, may_dissociate, may_go, may_kill, may_tear, open_refusal,
 };
@@ -80,7 +80,7 @@ impl State {
         is_actor(client)
             && self.is_next(
                 client,
-                Done {
+                CallStep {
                     word,
                     object,
                     found,
@@ -89,7 +89,7 @@ impl State {
             )
     }
 
-    fn is_next(&self, actor: u32, done: Done) -> bool
+    fn is_next(&self, actor: u32, done: CallStep) -> bool
         ensures { IsTrue result ↔ IsNext self.now actor done }
     {
         is_just(
@@ -142,7 +142,7 @@ fn kept_in(answer: Answer) -> u64
     }
 }
 
-fn is_just(next: Option<Done>, done: Done) -> bool
+fn is_just(next: Option<CallStep>, done: CallStep) -> bool
     ensures { IsTrue result ↔ (next ≡ Some done) }
 {
     match next {
@@ -151,19 +151,19 @@ fn is_just(next: Option<Done>, done: Done) -> bool
     }
 }
 
-fn are_same(a: Done, b: Done) -> bool
+fn are_same(a: CallStep, b: CallStep) -> bool
     ensures { IsTrue result ↔ (a ≡ b) }
 {
     have_same_object(a, b) && have_same_answer(a, b)
 }
 
-fn have_same_object(a: Done, b: Done) -> bool
+fn have_same_object(a: CallStep, b: CallStep) -> bool
     ensures { IsTrue result ↔ ((a.word ≡ b.word) × (a.object ≡ b.object)) }
 {
     a.word == b.word && a.object == b.object
 }
 
-fn have_same_answer(a: Done, b: Done) -> bool
+fn have_same_answer(a: CallStep, b: CallStep) -> bool
     ensures { IsTrue result ↔ ((a.found ≡ b.found) × (a.answer ≡ b.answer)) }
 {
     a.found == b.found && a.answer == b.answer

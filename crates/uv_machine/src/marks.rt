@@ -4,7 +4,7 @@ ghost use Rattle.std.specs.Prelude.{◌≡◌, ◌==◌, ◌||◌, ℕ, false, S
 ghost use Rattle.std.specs.List.{list_any};
 ghost use Rattle.uv_num.specs.declared.limits.TheConstants.{HANDLES};
 ghost use Rattle.uv_machine.specs.Objects.{has_handle};
-ghost use Rattle.uv_machine.specs.Plans.{is_number, reserves};
+ghost use Rattle.uv_machine.specs.Plans.{is_the_number, reserves};
 ghost use Rattle.uv_machine.specs.States.{least_from};
 ghost use Rattle.uv_machine.specs.Marking.{is_marked, Marks};
 
@@ -79,7 +79,7 @@ fn mark_call(table: &mut [bool; HANDLES], call: InFlight, file: u32)
 }
 
 fn mark_number(table: &mut [bool; HANDLES], number: Option<u32>)
-    ensures { Marks (λ n. is_number n number) table.old table.new }
+    ensures { Marks (λ n. is_the_number n number) table.old table.new }
 {
     match number {
         None => {}

@@ -2,7 +2,7 @@
 
 ghost use Rattle.std.specs.Prelude.{◌≡◌, map};
 ghost use Rattle.uv_machine.specs.Requests.{service_in, length_in, access_in};
-ghost use Rattle.uv_machine.specs.Objects.{is_kind, is_made, is_live, is_doomed, is_husk, live_from, doomed_from, bound_uses, changed, on_object, has_handle, is_published_at, uses_object, is_doomed_in, is_standing_in, object_service, region_length, region_access, domain_of};
+ghost use Rattle.uv_machine.specs.Objects.{is_kind, is_made, is_live, is_doomed, is_husk, live_from, doomed_from, bound_uses, with_change, on_object, has_handle, is_published_at, uses_object, is_doomed_in, is_standing_in, object_service, region_length, region_access, domain_of};
 
 use uv_num::{Ids, Kind, NONE, Request};
 
@@ -194,14 +194,14 @@ impl Object {
     }
 
     fn bind(&mut self, binding: Option<Binding>)
-        ensures { self.new ≡ changed (Change.ToBound binding) self.old }
+        ensures { self.new ≡ with_change (Change.ToBound binding) self.old }
     {
         self.uses = bound_uses(binding, self.uses);
         self.binding = binding;
     }
 
     fn release(&mut self)
-        ensures { self.new ≡ changed Change.ToHusk self.old }
+        ensures { self.new ≡ with_change Change.ToHusk self.old }
     {
         self.phase = Phase::Husk;
         self.uses = Ids::Empty;
@@ -209,7 +209,7 @@ impl Object {
     }
 
     fn change(&mut self, change: Change)
-        ensures { self.new ≡ changed change self.old }
+        ensures { self.new ≡ with_change change self.old }
     {
         match change {
             Change::ToLive => self.phase = self.phase.live(),

@@ -1,7 +1,7 @@
 //! The outside rule: when the entries may come that no call makes by itself.
 
 ghost use Rattle.std.specs.Prelude.{◌≡◌, ◌↔◌, IsTrue};
-ghost use Rattle.uv_machine.specs.Outside.{MayAnswer, open_refusal, act_needs_device, needs_device, enter_refusal, may_tear, is_swept, is_object, may_kill_in, may_kill_object, may_kill, may_go_object, may_go, may_dissociate, may_close};
+ghost use Rattle.uv_machine.specs.Outside.{MayAnswer, open_refusal, act_needs_device, needs_device, enter_refusal, may_tear, may_sweep, is_object, may_kill_in, may_kill_object, may_kill, may_go_object, may_go, may_dissociate, may_close};
 ghost use Rattle.uv_machine.specs.States.{is_fresh, is_open, is_callable, is_tearing, is_removing, is_dissociated, is_closing};
 
 use crate::entry::Answer;
@@ -132,7 +132,7 @@ pub fn may_tear<V: Readers>(view: &V, file: u32, by: u32) -> bool
 }
 
 fn is_swept<V: Readers>(view: &V, file: u32) -> bool
-    ensures { result ≡ is_swept (V.state view.now) file }
+    ensures { result ≡ may_sweep (V.state view.now) file }
 {
     view.phase_of(file).is_tearing() && view.is_quiet(file)
 }

@@ -5,7 +5,7 @@ ghost use Rattle.uv_machine.specs.Steps.{plain_told, refused_told, reserve_told,
 
 use crate::acts::{act_answer, act_refusal, found_by};
 use crate::call::InFlight;
-use crate::entry::{Answer, Done, Word};
+use crate::entry::{Answer, CallStep, Word};
 use crate::object::{Object, is_kind};
 use crate::readers::Readers;
 use crate::told::Told;
@@ -18,7 +18,7 @@ pub fn next_step<V: Readers>(
     actor: u32,
     found: Option<QpState>,
     kept: u64,
-) -> Option<Done>
+) -> Option<CallStep>
     ensures { result ≡ next_of (V.state view.now) actor found kept }
 {
     match view.call_of(actor) {
@@ -33,7 +33,7 @@ fn step_of<V: Readers>(
     found: Option<QpState>,
     kept: u64,
     call: InFlight,
-) -> Done
+) -> CallStep
     ensures { result ≡ step_of (V.state view.now) actor found kept call }
 {
     let word = call.next_word();
@@ -54,10 +54,10 @@ fn done_as<V: Readers>(
     kept: u64,
     word: Word,
     told: Told,
-) -> Done
+) -> CallStep
     ensures { result ≡ done_as (V.state view.now) call found kept word told }
 {
-    Done {
+    CallStep {
         word,
         object: told.object,
         found: found_at(call, word, found),

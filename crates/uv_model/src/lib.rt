@@ -17,6 +17,6 @@ pub use judging::{Verdict, judge};
 pub use left::{Left, left_in};
 pub use replays::standing;
 pub use uv_machine::{
-    Answer, Cell, Done, Entry, File, FilePhase, InFlight, Object, PLAN_STEPS, Phase,
-    Pool, State, Told, Word, first_bad,
+    Answer, CallStep, Cell, Entry, File, FilePhase, InFlight, Object, PLAN_STEPS, Phase, Pool,
+    State, Told, Word, first_bad,
 };

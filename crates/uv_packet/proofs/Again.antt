@@ -15,7 +15,7 @@ use Rattle.uv_packet.specs.declared.packet.Deth.{Deth}
 use Rattle.uv_packet.specs.declared.packet.Packet.{Packet}
 use Rattle.uv_packet.specs.declared.packet.Reth.{Reth}
 use Rattle.uv_packet.specs.Fields.{field}
-use Rattle.uv_packet.specs.Opcodes.{headers_of, plain}
+use Rattle.uv_packet.specs.Opcodes.{headers_of, payload_alone}
 use Rattle.uv_packet.specs.Places.{bytes_if, aeth_from, deth_from, imm_from, ieth_from, payload_from}
 use Rattle.uv_packet.specs.Packets.{Content, content_of, Ignored, pad_of, bth_bytes, reth_bytes, aeth_bytes, deth_bytes, word_bytes, headers_bytes, spelling, bytes_of, zeros, HasHeaders, IsPacketValue, RethFits, ContentFits, IsPacket}
 use Rattle.uv_packet.specs.Reading.{dest_at, pad_at, reth_at, aeth_at, deth_at, word_at, reth_in, aeth_in, deth_in, imm_in, ieth_in, payload_in, content_in, headers_at, content_at}
@@ -248,7 +248,7 @@ module _ (p : Content) (i : Ignored) (h : Headers) (known : headers_of p.opcode 
       λ j. record { opcode = p.opcode; solicited = solicited j; migrated = migrated j; pkey = pkey j; dest = dest j; ack = ack j; psn = psn j; reth = reth_again j; aeth = aeth_again j; imm = imm_again j; ieth = ieth_again j; deth = deth_again j; payload = payload_again j }
 
   headers_again : headers_at bytes ≡ h
-  headers_again = ap (λ (o : Option Headers). unwrap_or o plain) known
+  headers_again = ap (λ (o : Option Headers). unwrap_or o payload_alone) known
 
   rest_again : rest_at bytes ≡ length p.payload + length i.pad
   rest_again = ap (λ (k : Headers). length bytes - payload_from k) headers_again ∙ omega (arith, at-payload.count, length-append p.payload i.pad)

@@ -17,7 +17,7 @@ use Rattle.uv_packet.specs.declared.packet.Deth.{Deth}
 use Rattle.uv_packet.specs.declared.packet.Packet.{Packet}
 use Rattle.uv_packet.specs.declared.packet.Reth.{Reth}
 use Rattle.uv_packet.specs.Fields.{field}
-use Rattle.uv_packet.specs.Opcodes.{headers_of, plain}
+use Rattle.uv_packet.specs.Opcodes.{headers_of, payload_alone}
 use Rattle.uv_packet.specs.Places.{bytes_if, reth_from, aeth_from, deth_from, imm_from, ieth_from, payload_from}
 use Rattle.uv_packet.specs.Packets.{Content, content_of, Ignored, pad_of, flags_of, ack_byte, bth_bytes, reth_bytes, aeth_bytes, deth_bytes, word_bytes, headers_bytes, spelling, HasHeaders, IsPacketValue, RethFits, ContentFits, IsPacket}
 use Rattle.uv_packet.specs.Reading.{opcode_at, flags_at, solicited_at, migrated_at, pad_at, version_at, pkey_at, dest_at, reth_at, aeth_at, deth_at, word_at, headers_at, content_at}
@@ -230,7 +230,7 @@ clean bytes none =
       bth = ltb-false (length bytes) 12 a-parts.0;
       long = ltb-false (length bytes) (payload_from (headers_at bytes)) a-parts.1;
       version = eqb-true (version_at bytes) 0 (not-false (version_at bytes == 0) b.0);
-      known = some_is (headers_of (opcode_at bytes)) plain c.0;
+      known = some_is (headers_of (opcode_at bytes)) payload_alone c.0;
       padded = ltb-false (rest_at bytes) (pad_at bytes) d.0;
       whole = eqb-true (rest_at bytes % 4) 0 (not-false (rest_at bytes % 4 == 0) f-parts.0);
       few = ltb-false 4096 (rest_at bytes - pad_at bytes) f-parts.1;

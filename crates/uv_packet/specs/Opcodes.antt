@@ -31,33 +31,33 @@ opcode_number UdSendOnly = 0x64
 opcode_number UdSendOnlyWithImmediate = 0x65
 
 -- no header, and a payload
-abbrev pub plain : Headers
-plain = record { reth = false; aeth = false; deth = false; imm = false; ieth = false; payload = true }
+abbrev pub payload_alone : Headers
+payload_alone = record { reth = false; aeth = false; deth = false; imm = false; ieth = false; payload = true }
 
 -- the headers of an opcode
 abbrev pub headers_for : Opcode → Headers
-headers_for SendFirst = plain
-headers_for SendMiddle = plain
-headers_for SendLast = plain
-headers_for SendLastWithImmediate = record plain { imm = true }
-headers_for SendOnly = plain
-headers_for SendOnlyWithImmediate = record plain { imm = true }
-headers_for WriteFirst = record plain { reth = true }
-headers_for WriteMiddle = plain
-headers_for WriteLast = plain
-headers_for WriteLastWithImmediate = record plain { imm = true }
-headers_for WriteOnly = record plain { reth = true }
-headers_for WriteOnlyWithImmediate = record plain { reth = true; imm = true }
-headers_for ReadRequest = record plain { reth = true; payload = false }
-headers_for ReadResponseFirst = record plain { aeth = true }
-headers_for ReadResponseMiddle = plain
-headers_for ReadResponseLast = record plain { aeth = true }
-headers_for ReadResponseOnly = record plain { aeth = true }
-headers_for Acknowledge = record plain { aeth = true; payload = false }
-headers_for SendLastWithInvalidate = record plain { ieth = true }
-headers_for SendOnlyWithInvalidate = record plain { ieth = true }
-headers_for UdSendOnly = record plain { deth = true }
-headers_for UdSendOnlyWithImmediate = record plain { deth = true; imm = true }
+headers_for SendFirst = payload_alone
+headers_for SendMiddle = payload_alone
+headers_for SendLast = payload_alone
+headers_for SendLastWithImmediate = record payload_alone { imm = true }
+headers_for SendOnly = payload_alone
+headers_for SendOnlyWithImmediate = record payload_alone { imm = true }
+headers_for WriteFirst = record payload_alone { reth = true }
+headers_for WriteMiddle = payload_alone
+headers_for WriteLast = payload_alone
+headers_for WriteLastWithImmediate = record payload_alone { imm = true }
+headers_for WriteOnly = record payload_alone { reth = true }
+headers_for WriteOnlyWithImmediate = record payload_alone { reth = true; imm = true }
+headers_for ReadRequest = record payload_alone { reth = true; payload = false }
+headers_for ReadResponseFirst = record payload_alone { aeth = true }
+headers_for ReadResponseMiddle = payload_alone
+headers_for ReadResponseLast = record payload_alone { aeth = true }
+headers_for ReadResponseOnly = record payload_alone { aeth = true }
+headers_for Acknowledge = record payload_alone { aeth = true; payload = false }
+headers_for SendLastWithInvalidate = record payload_alone { ieth = true }
+headers_for SendOnlyWithInvalidate = record payload_alone { ieth = true }
+headers_for UdSendOnly = record payload_alone { deth = true }
+headers_for UdSendOnlyWithImmediate = record payload_alone { deth = true; imm = true }
 
 -- the opcodes, in the order of their numbers
 abbrev pub opcodes : List Opcode

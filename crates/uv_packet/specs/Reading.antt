@@ -6,7 +6,7 @@ use Rattle.uv_packet.specs.declared.packet.Aeth.{Aeth}
 use Rattle.uv_packet.specs.declared.packet.Deth.{Deth}
 use Rattle.uv_packet.specs.declared.packet.Reth.{Reth}
 use Rattle.uv_packet.specs.Fields.{field}
-use Rattle.uv_packet.specs.Opcodes.{headers_of, plain}
+use Rattle.uv_packet.specs.Opcodes.{headers_of, payload_alone}
 use Rattle.uv_packet.specs.Packets.{Content}
 use Rattle.uv_packet.specs.Places.{reth_from, aeth_from, deth_from, imm_from, ieth_from, payload_from}
 
@@ -83,7 +83,7 @@ content_in h bytes = record { opcode = opcode_at bytes; solicited = solicited_at
 
 -- the headers of the opcode that the bytes begin with, and none where it isn't known
 abbrev pub headers_at : List ℕ → Headers
-headers_at bytes = unwrap_or (headers_of (opcode_at bytes)) plain
+headers_at bytes = unwrap_or (headers_of (opcode_at bytes)) payload_alone
 
 abbrev pub content_at : List ℕ → Content
 content_at bytes = content_in (headers_at bytes) bytes

@@ -7,7 +7,7 @@ use Rattle.std.specs.List.{list_all}
 use Rattle.std.specs.Option.{is_some, is_none}
 use Rattle.uv_num.specs.declared.kind.Kind.{Kind}
 use Rattle.uv_num.specs.declared.limits.TheConstants.{CELLS}
-use Rattle.uv_pool.specs.Homes.{Homes, deed_at, is_out_at, has_all, full_homes, drawn, brought}
+use Rattle.uv_pool.specs.Homes.{Homes, deed_at, is_out_at, has_all, full_homes, deed_drawn, brought}
 
 both : (a b : Bool) → (a && b) ≡ true → (a ≡ true) × (b ≡ true)
 both true b e = (refl, e)
@@ -86,17 +86,17 @@ module _ {D : Type 0} (pool : Homes D) where
 
   -- A deed that went out.
 
-  pub deed_at-drawn_same : (i : ℕ) → deed_at (drawn i pool) i ≡ None
+  pub deed_at-drawn_same : (i : ℕ) → deed_at (deed_drawn i pool) i ≡ None
   deed_at-drawn_same i = nothing_there pool.deeds i
 
-  pub deed_at-drawn_other : (i k : ℕ) → k ≢ i → deed_at (drawn i pool) k ≡ deed_at pool k
+  pub deed_at-drawn_other : (i k : ℕ) → k ≢ i → deed_at (deed_drawn i pool) k ≡ deed_at pool k
   deed_at-drawn_other i k other = get_or-set_other pool.deeds i k None None other
 
-  pub is_out_at-drawn_same : (i : ℕ) → i < CELLS → is_out_at (drawn i pool) i ≡ true
+  pub is_out_at-drawn_same : (i : ℕ) → i < CELLS → is_out_at (deed_drawn i pool) i ≡ true
   is_out_at-drawn_same i cell =
       ap (λ o. nat_lt i CELLS && is_none o) (deed_at-drawn_same i) ∙ ap (λ b. b && true) (lt-ltb i CELLS cell)
 
-  pub is_out_at-drawn_other : (i k : ℕ) → k ≢ i → is_out_at (drawn i pool) k ≡ is_out_at pool k
+  pub is_out_at-drawn_other : (i k : ℕ) → k ≢ i → is_out_at (deed_drawn i pool) k ≡ is_out_at pool k
   is_out_at-drawn_other i k other = ap (λ o. nat_lt k CELLS && is_none o) (deed_at-drawn_other i k other)
 
   -- A deed that came home.

@@ -50,21 +50,21 @@ abbrev pub has_all : {D : Type 0} → Homes D → Bool
 has_all pool = list_all is_some pool.deeds
 
 -- a deed at a place that may be drawn: a spent one stays
-abbrev pub is_home : {D : Type 0} → (D → DeedFacts) → Option D → Bool
-is_home facts None = false
-is_home facts (Some deed) = not (facts deed).spent
+abbrev pub is_drawable : {D : Type 0} → (D → DeedFacts) → Option D → Bool
+is_drawable facts None = false
+is_drawable facts (Some deed) = not (facts deed).spent
 
 -- at this place of the list stands a deed that may be drawn
 pub record IsHomeAt {D : Type 0} (facts : D → DeedFacts) (deeds : List (Option D)) (i : ℕ) : Type 0 where
   pub within : i < length deeds
-  pub home : is_home facts (slice_index_or deeds i None) ≡ true
+  pub home : is_drawable facts (slice_index_or deeds i None) ≡ true
 
 -- Which deed is drawn.
 
 -- the choice goes round: the first deed that is home at or after the place, else the first before it
 abbrev pub home_place : {D : Type 0} → (D → DeedFacts) → Homes D → Option ℕ
 home_place facts pool =
-    option_or (option_map (λ i. pool.next + i) (position (is_home facts) (drop pool.next pool.deeds))) (position (is_home facts) (take pool.next pool.deeds))
+    option_or (option_map (λ i. pool.next + i) (position (is_drawable facts) (drop pool.next pool.deeds))) (position (is_drawable facts) (take pool.next pool.deeds))
 
 -- a deed that is drawn: one of the pool's kind and of the cell that is next, and it isn't spent
 pub record IsDrawn {D : Type 0} (facts : D → DeedFacts) (pool : Homes D) (deed : D) : Type 0 where
@@ -83,13 +83,13 @@ abbrev pub full_homes : {D : Type 0} → Kind → List D → Homes D
 full_homes kind deeds = record { kind = kind; deeds = map Some deeds; next = 0 }
 
 -- the deed at this place went out: the next choice begins behind it
-abbrev pub drawn : {D : Type 0} → ℕ → Homes D → Homes D
-drawn i pool = record { kind = pool.kind; deeds = slice_set pool.deeds i None; next = (i + 1) % CELLS }
+abbrev pub deed_drawn : {D : Type 0} → ℕ → Homes D → Homes D
+deed_drawn i pool = record { kind = pool.kind; deeds = slice_set pool.deeds i None; next = (i + 1) % CELLS }
 
 -- a deed that was found went out
 abbrev pub drawn_if : {D : Type 0} → Option ℕ → Homes D → Homes D
 drawn_if None pool = pool
-drawn_if (Some i) pool = drawn i pool
+drawn_if (Some i) pool = deed_drawn i pool
 
 -- a deed came home to this place
 abbrev pub brought : {D : Type 0} → ℕ → D → Homes D → Homes D

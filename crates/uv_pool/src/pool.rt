@@ -5,7 +5,7 @@ ghost use Rattle.std.specs.List.{list_all};
 ghost use Rattle.std.specs.Option.{is_some};
 ghost use Rattle.uv_num.specs.declared.kind.Kind.{Kind};
 ghost use Rattle.uv_num.specs.declared.limits.TheConstants.{CELLS};
-ghost use Rattle.uv_pool.specs.Homes.{IsOfCell, AreOfCells, IsPool, IsOutOf, IsDrawn, IsHomeAt, is_home, is_out_at, has_all, home_place, deed_at, deed_at_if, full_homes, drawn, drawn_if, brought};
+ghost use Rattle.uv_pool.specs.Homes.{IsOfCell, AreOfCells, IsPool, IsOutOf, IsDrawn, IsHomeAt, is_drawable, is_out_at, has_all, home_place, deed_at, deed_at_if, full_homes, deed_drawn, drawn_if, brought};
 
 use crate::Deed;
 use std::alloc::{AllocError, Global};
@@ -106,7 +106,7 @@ impl<D: Deed> Pool<D> {
     fn take_out(&mut self, place: usize) -> Option<D>
         requires { place < CELLS }
         ensures deed { result ≡ deed_at self.old place }
-        ensures pool { self.new ≡ drawn place self.old }
+        ensures pool { self.new ≡ deed_drawn place self.old }
         ensures own { IfSome result (λ d. IsOfCell D.facts self.old.kind place d) }
     {
         let deed = self.deeds.item_mut(place).take();
@@ -126,7 +126,7 @@ impl<D: Deed> Pool<D> {
     }
 
     fn home_behind(&self) -> Option<usize>
-        ensures place { result ≡ option_map (λ i. self.now.next + i) (position (is_home D.facts) (drop self.now.next self.now.deeds)) }
+        ensures place { result ≡ option_map (λ i. self.now.next + i) (position (is_drawable D.facts) (drop self.now.next self.now.deeds)) }
         ensures within { IfSome result (λ i. i < CELLS) }
         ensures home { IfSome result (λ i. IsHomeAt D.facts self.now.deeds i) }
     {
@@ -137,7 +137,7 @@ impl<D: Deed> Pool<D> {
     }
 
     fn home_before(&self) -> Option<usize>
-        ensures place { result ≡ position (is_home D.facts) (take self.now.next self.now.deeds) }
+        ensures place { result ≡ position (is_drawable D.facts) (take self.now.next self.now.deeds) }
         ensures within { IfSome result (λ i. i < CELLS) }
         ensures home { IfSome result (λ i. IsHomeAt D.facts self.now.deeds i) }
     {
@@ -146,21 +146,21 @@ impl<D: Deed> Pool<D> {
 }
 
 fn first_home_behind<D: Deed>(deeds: &[Option<D>], next: usize) -> Option<usize>
-    ensures place { result ≡ position (is_home D.facts) (drop next deeds.now) }
+    ensures place { result ≡ position (is_drawable D.facts) (drop next deeds.now) }
     ensures home { IfSome result (λ i. IsHomeAt D.facts deeds.now (next + i)) }
 {
     deeds.iter().skip(next).position(|slot| is_home(slot))
 }
 
 fn first_home_among<D: Deed>(deeds: &[Option<D>], count: usize) -> Option<usize>
-    ensures place { result ≡ position (is_home D.facts) (take count deeds.now) }
+    ensures place { result ≡ position (is_drawable D.facts) (take count deeds.now) }
     ensures home { IfSome result (λ i. IsHomeAt D.facts deeds.now i) }
 {
     deeds.iter().take(count).position(|slot| is_home(slot))
 }
 
 fn is_home<D: Deed>(slot: &Option<D>) -> bool
-    ensures { result ≡ is_home D.facts slot.now }
+    ensures { result ≡ is_drawable D.facts slot.now }
 {
     match slot {
         None => false,

@@ -1,10 +1,10 @@
 -- What is true of a queue pair stays so by a post of a send.
 use Rattle.std.proofs.Common.{◌≡◌, ◌&&◌, ◌||◌, ◌==◌, ◌++◌, ◌∷◌, [], Bool, true, false, length, refl, ap, sym, ◌∙◌, subst}
 use Rattle.std.proofs.lemmas.List.{map-append}
-use Rattle.uv_queue.specs.Queued.{Queued, after_push}
+use Rattle.uv_queue.specs.Queued.{Queued, with_pushed}
 use Rattle.uv_wr.specs.Works.{Sending}
 use Rattle.uv_qp.specs.declared.qp.Qp.TheInside.{Inside}
-use Rattle.uv_qp.specs.Inside.{seen, Fits}
+use Rattle.uv_qp.specs.Inside.{seen_pair, Fits}
 use Rattle.uv_qp.specs.Ledgers.{Ledgered, with_posted}
 use Rattle.uv_qp.specs.Pairs.{mtu_of, sending_id, takes_sends}
 use Rattle.uv_qp.specs.Posts.{fits_service, may_send}
@@ -14,12 +14,12 @@ takes : (a b c : Bool) → a && b ≡ true → (a || c) ≡ true
 takes true b c h = refl
 takes false b c h = cc
 
-fits_with_send : (q : Inside) (w : Sending) → Fits q → may_send (seen q) w ≡ true → Fits (record q { sends = after_push q.sends w; sent = with_posted q.sent w.id })
+fits_with_send : (q : Inside) (w : Sending) → Fits q → may_send (seen_pair q) w ≡ true → Fits (record q { sends = with_pushed q.sends w; sent = with_posted q.sent w.id })
 fits_with_send q w h may = record {
   pair = record {
     cell = h.pair.cell;
     kept = h.pair.kept;
-    requesting = requesting_grows q.requester (mtu_of (seen q)) q.sends.works w h.pair.requesting;
+    requesting = requesting_grows q.requester (mtu_of (seen_pair q)) q.sends.works w h.pair.requesting;
     responding = h.pair.responding;
     holding = h.pair.holding;
     unposted = takes (takes_sends q.state) (fits_service q.service w.op) (length (q.sends.works ++ w ∷ []) == 0) may;
@@ -34,9 +34,9 @@ fits_with_send q w h may = record {
   receives = h.receives;
 }
 
-pub fits_posted : (q : Inside) (w : Sending) (sends : Queued Sending) (sent : Ledgered) → Fits q → may_send (seen q) w ≡ true
-    → sends ≡ after_push q.sends w → sent ≡ with_posted q.sent w.id → Fits (record q { sends = sends; sent = sent })
+pub fits_posted : (q : Inside) (w : Sending) (sends : Queued Sending) (sent : Ledgered) → Fits q → may_send (seen_pair q) w ≡ true
+    → sends ≡ with_pushed q.sends w → sent ≡ with_posted q.sent w.id → Fits (record q { sends = sends; sent = sent })
 fits_posted q w sends sent h may pushed posted =
     let P : Queued Sending → Type 0 = λ s. Fits (record q { sends = s; sent = sent }) in
-    let Q : Ledgered → Type 0 = λ l. Fits (record q { sends = after_push q.sends w; sent = l }) in
+    let Q : Ledgered → Type 0 = λ l. Fits (record q { sends = with_pushed q.sends w; sent = l }) in
     subst P (sym pushed) (subst Q (sym posted) (fits_with_send q w h may))

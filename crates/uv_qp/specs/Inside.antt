@@ -4,8 +4,8 @@ use Rattle.uv_qp.specs.declared.qp.Qp.TheInside.{Inside}
 use Rattle.uv_qp.specs.Pairs.{Paired, IsPaired, sends_owed, receives_owed}
 
 -- the queue pair of these parts
-abbrev pub seen : Inside → Paired
-seen q = record {
+abbrev pub seen_pair : Inside → Paired
+seen_pair q = record {
   names = q.names;
   service = q.service;
   srq = q.srq;
@@ -22,6 +22,6 @@ seen q = record {
 
 -- each work that waits is owed its completion, in order
 pub record Fits (q : Inside) : Type 0 where
-  pub pair : IsPaired (seen q)
-  pub sends : q.sent.owed ≡ sends_owed (seen q)
-  pub receives : q.received.owed ≡ receives_owed (seen q)
+  pub pair : IsPaired (seen_pair q)
+  pub sends : q.sent.owed ≡ sends_owed (seen_pair q)
+  pub receives : q.received.owed ≡ receives_owed (seen_pair q)

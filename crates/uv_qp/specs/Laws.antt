@@ -10,15 +10,15 @@ use Rattle.uv_qp.specs.declared.state.Requester.{Requester}
 use Rattle.uv_qp.specs.declared.state.Responder.{Responder}
 use Rattle.uv_qp.specs.GoingOn.{PairGoesOn, TurnGoesOn}
 use Rattle.uv_qp.specs.Ledgers.{IsOrdered}
-use Rattle.uv_qp.specs.Moves.{moved_to, reset}
-use Rattle.uv_qp.specs.Pairs.{Paired, IsInOrder, next_receive, next_send, receives_posted, sends_posted}
+use Rattle.uv_qp.specs.Moves.{pair_moved_to, reset}
+use Rattle.uv_qp.specs.Pairs.{Paired, HasPlacesInOrder, next_receive, next_send, receives_posted, sends_posted}
 use Rattle.uv_qp.specs.Posts.{with_receive, with_send}
 use Rattle.uv_qp.specs.Writers.{broken, held_from_queue, held_from_shared, receive_completed, receive_completion, send_completed, send_completion, with_requester, with_responder}
 
 -- Its lists tell at each moment how the first works ended that were posted, and after one that failed none succeeded.
 
 abbrev pub ListsAreOrdered : Type 0
-ListsAreOrdered = (p : Paired) → IsInOrder p → IsOrdered (sends_posted p) p.sent × IsOrdered (receives_posted p) p.received
+ListsAreOrdered = (p : Paired) → HasPlacesInOrder p → IsOrdered (sends_posted p) p.sent × IsOrdered (receives_posted p) p.received
 
 -- The works that wait were posted.
 
@@ -31,16 +31,16 @@ WorksWerePosted = (p : Paired) → WaitingWerePosted p
 
 -- A queue pair goes on from itself, and from each that it goes on from in turn.
 
-abbrev pub GoesOnFromItself : Type 0
-GoesOnFromItself = (p : Paired) → PairGoesOn p p
+abbrev pub PairGoesOnFromItself : Type 0
+PairGoesOnFromItself = (p : Paired) → PairGoesOn p p
 
-abbrev pub GoesOnInTurn : Type 0
-GoesOnInTurn = (p q r : Paired) → PairGoesOn p q → PairGoesOn q r → PairGoesOn p r
+abbrev pub PairGoesOnInTurn : Type 0
+PairGoesOnInTurn = (p q r : Paired) → PairGoesOn p q → PairGoesOn q r → PairGoesOn p r
 
 -- It goes on by all that is done to it but a move to RESET: by its other moves, ..
 
 abbrev pub MovesGoOn : Type 0
-MovesGoOn = (p : Paired) (to : QpState) (attrs : QpAttrs) → (to ≡ state.Reset → ⊥) → PairGoesOn p (moved_to p to attrs)
+MovesGoOn = (p : Paired) (to : QpState) (attrs : QpAttrs) → (to ≡ state.Reset → ⊥) → PairGoesOn p (pair_moved_to p to attrs)
 
 -- .. by posts, which add one work to one list, ..
 

@@ -29,28 +29,28 @@ unused names srq send_depth recv_depth service = record {
 }
 
 -- the queue pair that a request asks for, if it asks for one
-abbrev pub made_by : Names → Request → Option Paired
-made_by names AllocPd = None
-made_by names (DeallocPd pd) = None
-made_by names CreateChannel = None
-made_by names (DestroyChannel channel) = None
-made_by names (CreateCq depth channel) = None
-made_by names (DestroyCq cq) = None
-made_by names (CreateQp pd send_cq recv_cq srq service send_depth recv_depth) = option_map (unused names (is_some srq) send_depth recv_depth) (service_of service)
-made_by names (DestroyQp qp) = None
-made_by names (ModifyQp qp to attrs) = None
-made_by names (QueryQp qp) = None
-made_by names (CreateSrq pd depth) = None
-made_by names (DestroySrq srq) = None
-made_by names (CreateAh pd device) = None
-made_by names (DestroyAh ah) = None
-made_by names (RegMr pd length access) = None
-made_by names (DeregMr mr) = None
-made_by names (AllocMw pd) = None
-made_by names (DeallocMw mw) = None
-made_by names (BindMw mw mr offset length access) = None
-made_by names GetAsync = None
+abbrev pub pair_made_by : Names → Request → Option Paired
+pair_made_by names AllocPd = None
+pair_made_by names (DeallocPd pd) = None
+pair_made_by names CreateChannel = None
+pair_made_by names (DestroyChannel channel) = None
+pair_made_by names (CreateCq depth channel) = None
+pair_made_by names (DestroyCq cq) = None
+pair_made_by names (CreateQp pd send_cq recv_cq srq service send_depth recv_depth) = option_map (unused names (is_some srq) send_depth recv_depth) (service_of service)
+pair_made_by names (DestroyQp qp) = None
+pair_made_by names (ModifyQp qp to attrs) = None
+pair_made_by names (QueryQp qp) = None
+pair_made_by names (CreateSrq pd depth) = None
+pair_made_by names (DestroySrq srq) = None
+pair_made_by names (CreateAh pd device) = None
+pair_made_by names (DestroyAh ah) = None
+pair_made_by names (RegMr pd length access) = None
+pair_made_by names (DeregMr mr) = None
+pair_made_by names (AllocMw pd) = None
+pair_made_by names (DeallocMw mw) = None
+pair_made_by names (BindMw mw mr offset length access) = None
+pair_made_by names GetAsync = None
 
 -- the queue pair under other names
-abbrev pub named : Paired → Names → Paired
-named p names = record p { names = names }
+abbrev pub pair_named : Paired → Names → Paired
+pair_named p names = record p { names = names }

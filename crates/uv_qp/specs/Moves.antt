@@ -36,21 +36,21 @@ reset p = record p {
 }
 
 -- the queue pair in a new state
-abbrev pub moved_to : Paired → QpState → QpAttrs → Paired
-moved_to p state.Reset attrs = reset p
-moved_to p state.Init attrs = record p { state = state.Init; kept = over attrs p.kept }
-moved_to p state.Rtr attrs = record p { state = state.Rtr; kept = over attrs p.kept; responder = expecting (unwrap_or attrs.rqpsn 0) }
-moved_to p state.Rts attrs = record p { state = state.Rts; kept = over attrs p.kept; requester = starting (unwrap_or attrs.sqpsn 0) }
-moved_to p state.Err attrs = record p { state = state.Err }
+abbrev pub pair_moved_to : Paired → QpState → QpAttrs → Paired
+pair_moved_to p state.Reset attrs = reset p
+pair_moved_to p state.Init attrs = record p { state = state.Init; kept = over attrs p.kept }
+pair_moved_to p state.Rtr attrs = record p { state = state.Rtr; kept = over attrs p.kept; responder = expecting (unwrap_or attrs.rqpsn 0) }
+pair_moved_to p state.Rts attrs = record p { state = state.Rts; kept = over attrs p.kept; requester = starting (unwrap_or attrs.sqpsn 0) }
+pair_moved_to p state.Err attrs = record p { state = state.Err }
 
 -- what the table says of a move: the new state, or the errno
 abbrev pub verdict_of : Paired → QpState → QpAttrs → Result QpState Errno
 verdict_of p to attrs = modify_of (service_number p.service) p.state (qp_state_number to) attrs
 
 -- the queue pair after that: a refused move changes nothing
-abbrev pub moved_by : Paired → Result QpState Errno → QpAttrs → Paired
-moved_by p (Err errno) attrs = p
-moved_by p (Ok to) attrs = moved_to p to attrs
+abbrev pub pair_moved_by : Paired → Result QpState Errno → QpAttrs → Paired
+pair_moved_by p (Err errno) attrs = p
+pair_moved_by p (Ok to) attrs = pair_moved_to p to attrs
 
 -- what the caller is told
 abbrev pub move_answer : Result QpState Errno → Result (Unit {0}) Errno

@@ -72,12 +72,12 @@ is_broken Err = true
 
 -- its number
 
-abbrev pub number_of : Names → ℕ
-number_of names = FIRST_QP_NUMBER + names.index
+abbrev pub qpn_of : Names → ℕ
+qpn_of names = FIRST_QP_NUMBER + names.index
 
 -- whether a completion names it
 abbrev pub names_pair : Names → Completion → Bool
-names_pair names c = c.qpn == number_of names
+names_pair names c = c.qpn == qpn_of names
 
 -- its attributes: what is told to others where none was given
 
@@ -207,6 +207,6 @@ pub record IsPaired (p : Paired) : Type 0 where
   pub receives_named : list_all (names_pair p.names) p.received ≡ true
 
 -- the works that ended are the first that were posted, and after one that failed none succeeded
-pub record IsInOrder (p : Paired) : Type 0 where
+pub record HasPlacesInOrder (p : Paired) : Type 0 where
   pub sends : in_order p.sent ≡ true
   pub receives : in_order p.received ≡ true

@@ -3,7 +3,7 @@ use Rattle.std.specs.Prelude.{◌≡◌, ◌<◌, ◌&&◌, Bool, false, true, n
 use Rattle.uv_num.specs.declared.qp.Service.{Service}
 use Rattle.uv_num.specs.declared.qp.Service.TheVariants.{Rc}
 use Rattle.uv_num.specs.declared.qp.Service.TheVariants as service
-use Rattle.uv_queue.specs.Queued.{Queued, after_push}
+use Rattle.uv_queue.specs.Queued.{Queued, with_pushed}
 use Rattle.uv_wr.specs.declared.work.Op.{Op}
 use Rattle.uv_wr.specs.declared.work.Op.TheVariants.{Send, SendImm, Write, WriteImm, Read}
 use Rattle.uv_wr.specs.declared.work.Op.TheVariants as op
@@ -39,10 +39,10 @@ may_receive p = takes_receives p.state && not p.srq
 
 -- the work is the newest that waits
 abbrev pub with_send : Paired → Sending → Paired
-with_send p w = record p { sends = after_push p.sends w }
+with_send p w = record p { sends = with_pushed p.sends w }
 
 abbrev pub with_receive : Paired → Receiving → Paired
-with_receive p w = record p { receives = after_push p.receives w }
+with_receive p w = record p { receives = with_pushed p.receives w }
 
 -- a queue with as many works as it may have, and one with fewer
 abbrev pub IsFull : {W : Type 0} → Queued W → Type 0

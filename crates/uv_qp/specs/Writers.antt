@@ -17,7 +17,7 @@ use Rattle.uv_qp.specs.declared.state.Names.{Names}
 use Rattle.uv_qp.specs.declared.state.Requester.{Requester}
 use Rattle.uv_qp.specs.declared.state.Responder.{Responder}
 use Rattle.uv_qp.specs.PacketCounts.{work_packets}
-use Rattle.uv_qp.specs.Pairs.{Paired, mtu_of, next_send, next_receive, number_of}
+use Rattle.uv_qp.specs.Pairs.{Paired, mtu_of, next_send, next_receive, qpn_of}
 
 -- with its requester, or its responder, elsewhere
 abbrev pub with_requester : Paired → Requester → Paired
@@ -50,7 +50,7 @@ send_completion names status w = record {
   what = what_of w.op;
   length = if is_failure status then 0 else whole_length w.parts;
   imm = None;
-  qpn = number_of names;
+  qpn = qpn_of names;
 }
 
 -- the completion of a receive tells the length of the message and its immediate, or neither where it failed
@@ -61,7 +61,7 @@ receive_completion names status length imm w = record {
   what = what.Recv;
   length = if is_failure status then 0 else length;
   imm = if is_failure status then None else imm;
-  qpn = number_of names;
+  qpn = qpn_of names;
 }
 
 -- a requester counts from so many packets later

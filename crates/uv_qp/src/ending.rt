@@ -3,7 +3,7 @@
 ghost use Rattle.std.specs.Prelude.{◌≡◌, ◌<◌, ◌≤◌};
 ghost use Rattle.uv_num.specs.declared.limits.TheConstants.{CELLS, PSNS};
 ghost use Rattle.uv_qp.specs.declared.counting.TheConstants.{WORK_PACKETS};
-ghost use Rattle.uv_qp.specs.Pairs.{number_of};
+ghost use Rattle.uv_qp.specs.Pairs.{qpn_of};
 ghost use Rattle.uv_qp.specs.Writers.{counted_from, receive_completion, send_completion, what_of};
 
 use crate::state::{Names, Requester};
@@ -24,7 +24,7 @@ fn what_of(op: Op) -> What
 
 pub(crate) fn number_of(names: Names) -> u32
     requires { names.index < CELLS }
-    ensures { result ≡ number_of names }
+    ensures { result ≡ qpn_of names }
 {
     FIRST_QP_NUMBER + names.index
 }

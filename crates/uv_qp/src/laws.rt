@@ -1,6 +1,6 @@
 //! Laws of queue pairs.
 
-ghost use Rattle.uv_qp.specs.Laws.{ListsAreOrdered, WorksWerePosted, GoesOnFromItself, GoesOnInTurn, MovesGoOn, PostsGoOn, TurnsGoOn, TurnsGoOnInTurn, ResetBeginsAnew};
+ghost use Rattle.uv_qp.specs.Laws.{ListsAreOrdered, WorksWerePosted, PairGoesOnFromItself, PairGoesOnInTurn, MovesGoOn, PostsGoOn, TurnsGoOn, TurnsGoOnInTurn, ResetBeginsAnew};
 
 /// What a queue pair tells of its works is in order at each moment.
 pub fn lists_are_ordered()
@@ -14,12 +14,12 @@ pub fn works_were_posted()
 
 /// A queue pair goes on from itself.
 pub fn goes_on_from_itself()
-    ensures { GoesOnFromItself }
+    ensures { PairGoesOnFromItself }
 {}
 
 /// A queue pair goes on from each that those go on from which it goes on from.
 pub fn goes_on_in_turn()
-    ensures { GoesOnInTurn }
+    ensures { PairGoesOnInTurn }
 {}
 
 /// A queue pair goes on by each move but that to RESET.

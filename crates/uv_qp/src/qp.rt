@@ -16,9 +16,9 @@ ghost use Rattle.uv_qp.specs.declared.ledger.Which.TheVariants as Which;
 ghost use Rattle.uv_packet.specs.Opcodes.{opcode_of};
 ghost use Rattle.uv_qp.specs.Gate.{lets_in, takes_opcode};
 ghost use Rattle.uv_qp.specs.Ledgers.{IsOrdered};
-ghost use Rattle.uv_qp.specs.Makings.{made_by, named, unused};
-ghost use Rattle.uv_qp.specs.Moves.{has_row, move_answer, moved_by, moved_to, reset, verdict_of};
-ghost use Rattle.uv_qp.specs.Pairs.{access_of, has_begun, is_broken, is_send, mtu_of, next_receive, next_send, number_of, packets_waiting, peer_of, peer_device_of, qkey_of, receives_posted, retries_of, rnr_retries_of, rnr_timer_of, sends_posted, takes_receives, takes_sends, IsInOrder, IsPaired, IsRequesting, IsResponding};
+ghost use Rattle.uv_qp.specs.Makings.{pair_made_by, pair_named, unused};
+ghost use Rattle.uv_qp.specs.Moves.{has_row, move_answer, pair_moved_by, pair_moved_to, reset, verdict_of};
+ghost use Rattle.uv_qp.specs.Pairs.{access_of, has_begun, is_broken, is_send, mtu_of, next_receive, next_send, qpn_of, packets_waiting, peer_of, peer_device_of, qkey_of, receives_posted, retries_of, rnr_retries_of, rnr_timer_of, sends_posted, takes_receives, takes_sends, HasPlacesInOrder, IsPaired, IsRequesting, IsResponding};
 ghost use Rattle.uv_qp.specs.Posts.{fits_service, may_receive, may_send, PostsReceive, PostsSend};
 ghost use Rattle.uv_qp.specs.Writers.{broken, held_from_queue, held_from_shared, receive_completed, receive_completion, send_completed, send_completion, with_requester, with_responder};
 
@@ -71,9 +71,9 @@ impl Model for Qp {
 
     ghost Value = { Paired };
 
-    ghost use Rattle.uv_qp.specs.Inside.{seen, Fits};
+    ghost use Rattle.uv_qp.specs.Inside.{seen_pair, Fits};
 
-    ghost view = { seen };
+    ghost view = { seen_pair };
 
     ghost invariant = { Fits };
 }
@@ -126,7 +126,7 @@ impl Qp {
         requires cell { index < CELLS }
         requires creates { role_of request.now ≡ Role.Creates Kind.Qp }
         requires range { is_in_range request.now ≡ true }
-        ensures { IfOk result (λ q. Some q ≡ made_by (record { object = object; domain = domain; index = index; device = device }) request.now) }
+        ensures { IfOk result (λ q. Some q ≡ pair_made_by (record { object = object; domain = domain; index = index; device = device }) request.now) }
     {
         let names = Names {
             object,
@@ -194,7 +194,7 @@ impl Qp {
         requires reset { self.old.state ≡ QpState.Reset }
         requires sends { sends_posted self.old ≡ [] }
         requires receives { receives_posted self.old ≡ [] }
-        ensures { self.new ≡ named self.old (record { object = object; domain = domain; index = index; device = device }) }
+        ensures { self.new ≡ pair_named self.old (record { object = object; domain = domain; index = index; device = device }) }
     {
         self.names = Names {
             object,
@@ -234,7 +234,7 @@ impl Qp {
     /// What is true of every queue pair.
     pub fn keeps(&self)
         ensures paired { IsPaired self.now }
-        ensures ordered { IsInOrder self.now }
+        ensures ordered { HasPlacesInOrder self.now }
     {
         self.sent.is_in_order();
         self.received.is_in_order();
@@ -250,7 +250,7 @@ impl Qp {
     #[tactic(auto, using(crate::proofs::Rows::has_row_of_ok))]
     pub fn modify(&mut self, to: QpState, attrs: &QpAttrs) -> Result<(), Errno>
         requires { attrs_in_range attrs.now ≡ true }
-        ensures pair { self.new ≡ moved_by self.old (verdict_of self.old to attrs.now) attrs.now }
+        ensures pair { self.new ≡ pair_moved_by self.old (verdict_of self.old to attrs.now) attrs.now }
         ensures answer { result ≡ move_answer (verdict_of self.old to attrs.now) }
     {
         let to = modify(
@@ -267,7 +267,7 @@ impl Qp {
     fn move_to(&mut self, to: QpState, attrs: &QpAttrs)
         requires row { has_row self.old.state to ≡ true }
         requires range { attrs_in_range attrs.now ≡ true }
-        ensures { self.new ≡ moved_to self.old to attrs.now }
+        ensures { self.new ≡ pair_moved_to self.old to attrs.now }
     {
         match to {
             QpState::Reset => self.reset(),
@@ -382,7 +382,7 @@ impl Qp {
 
     /// Its number, which packets and completions have: below `QP_NUMBERS`.
     pub fn number(&self) -> u32
-        ensures number { result ≡ number_of self.now.names }
+        ensures number { result ≡ qpn_of self.now.names }
         ensures range { result < QP_NUMBERS }
     {
         number_of(self.names)

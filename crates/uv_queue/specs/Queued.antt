@@ -8,8 +8,8 @@ pub record Queued (W : Type 0) : Type 0 where
   pub depth : ℕ
 
 -- the queue with a work behind the others
-abbrev pub after_push : {W : Type 0} → Queued W → W → Queued W
-after_push q work = record q { works = with_newest q.works work }
+abbrev pub with_pushed : {W : Type 0} → Queued W → W → Queued W
+with_pushed q work = record q { works = with_newest q.works work }
 
 -- the queue without its oldest work, if it has one
 abbrev pub after_pop : {W : Type 0} → Queued W → Queued W

@@ -4,7 +4,7 @@ ghost use Rattle.std.specs.Prelude.{◌≡◌, ◌≤◌, ◌<◌, ◌==◌, [],
 ghost use Rattle.std.specs.Option.{option_copied};
 ghost use Rattle.uv_num.specs.declared.limits.TheConstants.{QUEUE_DEPTH};
 ghost use Rattle.uv_queue.specs.Order.{oldest};
-ghost use Rattle.uv_queue.specs.Queued.{after_push, after_pop, emptied};
+ghost use Rattle.uv_queue.specs.Queued.{with_pushed, after_pop, emptied};
 
 use std::alloc::{AllocError, Global};
 use std::marker::Model;
@@ -99,7 +99,7 @@ impl<W: Drop> WorkQueue<W> {
     /// nothing has changed.
     pub fn push(&mut self, work: W) -> Result<(), W>
         ensures full { IsErr result ↔ (length self.old.works ≡ self.old.depth) }
-        ensures pushed { OnOk result (self.new ≡ after_push self.old work) }
+        ensures pushed { OnOk result (self.new ≡ with_pushed self.old work) }
         ensures back { IfErr result (λ w. (w ≡ work) × (self.new ≡ self.old)) }
     {
         if self.works.len() >= self.depth as usize {

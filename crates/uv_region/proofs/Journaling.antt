@@ -13,7 +13,7 @@ use Rattle.uv_region.specs.Registered.{Registered}
 use Rattle.uv_region.specs.Replay.{standing, overwritten, effect, replay_from, replay_of}
 use Rattle.uv_region.specs.Journals.{PlainJournal, journal_of, terms_at, AllowedFrom, IsJournal, GoesOn}
 use Rattle.uv_region.specs.Laws.{PassesAll, RefusedFor}
-use Rattle.uv_region.specs.Acting.{after, journalled}
+use Rattle.uv_region.specs.Acting.{after_action, journalled}
 use Rattle.uv_region.proofs.Keeping.{allowed_inside, length_after}
 
 pub goes_on_refl : (j : PlainJournal) → GoesOn j j
@@ -28,7 +28,7 @@ goes_on_trans i j k p q = record {
   actions = IsPrefix_trans i.actions j.actions k.actions p.actions q.actions;
 }
 
-pub acted_on : (r : Registered) (a : PlainAction) → GoesOn (journal_of r) (journal_of (after r a))
+pub acted_on : (r : Registered) (a : PlainAction) → GoesOn (journal_of r) (journal_of (after_action r a))
 acted_on r a = record { object = refl; domain = refl; length = refl; rights = refl; actions = IsPrefix-append r.actions (journalled a r.bytes ∷ []) }
 
 bool_apart : true ≡ false → ⊥

@@ -11,7 +11,7 @@ use Rattle.uv_region.specs.Refusals.{Terms, IsAllowed, first_refusal}
 use Rattle.uv_region.specs.Registered.{Registered, registered, terms_of}
 use Rattle.uv_region.specs.Replay.{standing, effect, replay_of, HoldsRead, overwritten}
 use Rattle.uv_region.specs.Journals.{AllowedFrom, IsKept}
-use Rattle.uv_region.specs.Acting.{journalled, after}
+use Rattle.uv_region.specs.Acting.{journalled, after_action}
 use Rattle.uv_region.proofs.Replaying.{replay_from-snoc, ReadsHold-snoc, length-standing, length-overwritten}
 
 -- an allowed action lies inside
@@ -61,7 +61,7 @@ length_after false a bytes is can inside =
     length-overwritten a.offset a.bytes bytes (omega arith)
 
 -- what is true of every region stays so by an action that is allowed
-pub kept_after : (r : Registered) (a : PlainAction) → IsKept r → IsAllowed (terms_of r) a → CanBeMade a → IsKept (after r a)
+pub kept_after : (r : Registered) (a : PlainAction) → IsKept r → IsAllowed (terms_of r) a → CanBeMade a → IsKept (after_action r a)
 kept_after r a kept allowed can =
     let one : PlainAction = journalled a r.bytes in
     let reads : Bool = is_read a.kind in
@@ -94,5 +94,5 @@ pub kept_parts : (object domain size : ℕ) (rights : Rights) (bytes more : List
 kept_parts object domain size rights bytes more actions next a made kept allowed can done as-held put =
     let r : Registered = registered object domain size rights bytes actions in
     let all : map plain next.items ≡ r.actions ++ journalled (plain a) bytes ∷ [] = ap (map plain) put ∙ (map-append plain actions.items (made ∷ []) ∙ ap (λ x. r.actions ++ x ∷ []) as-held) in
-    let same : registered object domain size rights more next ≡ record (after r (plain a)) { spare = next.room } = λ i. record { object = object; domain = domain; length = size; rights = rights; bytes = done i; actions = all i; spare = next.room } in
-    subst IsKept (sym same) (kept_spare (after r (plain a)) next.room (kept_after r (plain a) kept allowed can))
+    let same : registered object domain size rights more next ≡ record (after_action r (plain a)) { spare = next.room } = λ i. record { object = object; domain = domain; length = size; rights = rights; bytes = done i; actions = all i; spare = next.room } in
+    subst IsKept (sym same) (kept_spare (after_action r (plain a)) next.room (kept_after r (plain a) kept allowed can))

@@ -11,7 +11,7 @@ use Rattle.std.specs.Ordering.{nat_cmp, eq_by_cmp, is_eq}
 use Rattle.std.specs.Prelude.{slice_get, slice_set, is_none, is_some, option_map, ◌==◌}
 use Rattle.uv_num.specs.declared.limits.TheConstants.{LENT_REGIONS}
 use Rattle.uv_region.specs.declared.regions.Keyed.{Keyed}
-use Rattle.uv_region.specs.Lent.{Reached, Lent, entries_of, AreApart, IsLent, has_key, reached_at}
+use Rattle.uv_region.specs.Lent.{ReachedRegion, Lent, entries_of, AreApart, IsLent, has_key, reached_at}
 
 -- whether two keys are one
 abbrev tied : ℕ → ℕ → Bool
@@ -24,16 +24,16 @@ with_itself : (k : ℕ) → tied k k ≡ true
 with_itself k = ap is_eq (tied_itself nat_cmp_total k)
 
 -- the value of a key in entries
-abbrev at_key : ℕ → List (ℕ × Reached) → Option Reached
+abbrev at_key : ℕ → List (ℕ × ReachedRegion) → Option ReachedRegion
 at_key q es = find nat_cmp q es
 
 -- a first entry whose key isn't asked for
-not_first : (b : Bool) (v : Reached) (rest : Option Reached) → cond b (Some v) rest ≡ None → (b ≡ false) × (rest ≡ None)
+not_first : (b : Bool) (v : ReachedRegion) (rest : Option ReachedRegion) → cond b (Some v) rest ≡ None → (b ≡ false) × (rest ≡ None)
 not_first true v rest h = cc
 not_first false v rest h = (refl, h)
 
 -- two tests that don't both pass may be made in either order
-swapped : (a b : Bool) (x y z : Option Reached) → (a ≡ true → b ≡ true → ⊥) → cond a x (cond b y z) ≡ cond b y (cond a x z)
+swapped : (a b : Bool) (x y z : Option ReachedRegion) → (a ≡ true → b ≡ true → ⊥) → cond a x (cond b y z) ≡ cond b y (cond a x z)
 swapped true true x y z apart = absurd (apart refl refl)
 swapped true false x y z apart = refl
 swapped false b x y z apart = refl
@@ -47,24 +47,24 @@ not_both q x k apart one other =
     cc
 
 -- what is left where a test doesn't pass
-neither : (b : Bool) (v rest : Option Reached) → b ≡ false → rest ≡ None → cond b v rest ≡ None
+neither : (b : Bool) (v rest : Option ReachedRegion) → b ≡ false → rest ≡ None → cond b v rest ≡ None
 neither true v rest h none = cc
 neither false v rest h none = none
 
-passed : (b : Bool) (v rest : Option Reached) → b ≡ false → cond b v rest ≡ rest
+passed : (b : Bool) (v rest : Option ReachedRegion) → b ≡ false → cond b v rest ≡ rest
 passed true v rest h = cc
 passed false v rest h = refl
 
 -- nothing is there where a test passes
-gone : (b : Bool) (v rest : Option Reached) → (b ≡ true → rest ≡ None) → rest ≡ cond b None (cond b v rest)
+gone : (b : Bool) (v rest : Option ReachedRegion) → (b ≡ true → rest ≡ None) → rest ≡ cond b None (cond b v rest)
 gone true v rest none = none refl
 gone false v rest none = refl
 
-unchanged : (b : Bool) (o : Option Reached) → (b ≡ true → o ≡ None) → cond b None o ≡ o
+unchanged : (b : Bool) (o : Option ReachedRegion) → (b ≡ true → o ≡ None) → cond b None o ≡ o
 unchanged true o none = sym (none refl)
 unchanged false o none = refl
 
-both_none : (b : Bool) → cond {A = Option Reached} b None None ≡ None
+both_none : (b : Bool) → cond {A = Option ReachedRegion} b None None ≡ None
 both_none true = refl
 both_none false = refl
 
@@ -81,7 +81,7 @@ not_back k x h = fails (tied x k) (λ back.
     cc)
 
 -- a key that stands behind isn't the first one
-not_later : (k x : ℕ) (v : Reached) (es : List (ℕ × Reached)) → at_key x es ≡ None → at_key k es ≡ Some v → tied k x ≡ false
+not_later : (k x : ℕ) (v : ReachedRegion) (es : List (ℕ × ReachedRegion)) → at_key x es ≡ None → at_key k es ≡ Some v → tied k x ≡ false
 not_later k x v es none some = fails (tied k x) (λ h.
     let same : at_key k es ≡ at_key x es = ap (λ n. at_key n es) (tied_same k x h) in
     cc)
@@ -161,15 +161,15 @@ taken places at k is apart =
     ∙ sym (map.get-remove nat_cmp_total (map.from_entries (entries_of places)) k.key q ∙ ap (cond (tied q k.key) None) (map.get-from_entries nat_cmp_total (entries_of places) q)))
 
 -- to take a key that has no region changes nothing
-pub nothing_taken : (es : List (ℕ × Reached)) (key : ℕ) → at_key key es ≡ None → map.from_entries {R = nat_cmp} es ≡ map.remove (map.from_entries es) key
+pub nothing_taken : (es : List (ℕ × ReachedRegion)) (key : ℕ) → at_key key es ≡ None → map.from_entries {R = nat_cmp} es ≡ map.remove (map.from_entries es) key
 nothing_taken es key none =
     map.same_map nat_cmp_total nat_cmp-IsAntisymmetric _ _ (λ q.
     sym (map.get-remove nat_cmp_total (map.from_entries es) key q
     ∙ unchanged (tied q key) (map.get (map.from_entries es) q) (λ h. map.get-from_entries nat_cmp_total es q ∙ (ap (λ n. at_key n es) (tied_same q key h) ∙ none))))
 
 -- as many keys as entries
-pub len_of_entries : (es : List (ℕ × Reached)) → AreApart es → map.len (map.from_entries {R = nat_cmp} es) ≡ length es
-len_of_entries [] apart = map.len-empty nat_cmp Reached
+pub len_of_entries : (es : List (ℕ × ReachedRegion)) → AreApart es → map.len (map.from_entries {R = nat_cmp} es) ≡ length es
+len_of_entries [] apart = map.len-empty nat_cmp ReachedRegion
 len_of_entries (e ∷ es) apart =
     map.len-insert nat_cmp_total (map.from_entries es) e.0 e.1
     ∙ ap (λ o. cond (is_some o) (map.len (map.from_entries {R = nat_cmp} es)) (map.len (map.from_entries {R = nat_cmp} es) + 1)) (map.get-from_entries nat_cmp_total es e.0 ∙ apart.0)
@@ -182,12 +182,12 @@ found_key key (Some None) h = cc
 found_key key (Some (Some k)) h = let is : (key == k.key) ≡ true = cc in (k, refl, sym (eqb-true key k.key is))
 
 -- what a take leaves, and gives
-pub record IsTaken (places now : List (Option Keyed)) (key : ℕ) (result : Option Reached) : Type 0 where
+pub record IsTaken (places now : List (Option Keyed)) (key : ℕ) (result : Option ReachedRegion) : Type 0 where
   pub given : result ≡ map.get (map.from_entries {R = nat_cmp} (entries_of places)) key
   pub rest : map.from_entries {R = nat_cmp} (entries_of now) ≡ map.remove (map.from_entries (entries_of places)) key
   pub lent : IsLent now
 
-taken_keyed : (places now : List (Option Keyed)) (at key : ℕ) (result : Option Reached) (k : Keyed) → slice_get places at ≡ Some (Some k) → k.key ≡ key → option_map reached_at (slice_get places at) ≡ Some result → now ≡ slice_set places at None → IsLent places → IsTaken places now key result
+taken_keyed : (places now : List (Option Keyed)) (at key : ℕ) (result : Option ReachedRegion) (k : Keyed) → slice_get places at ≡ Some (Some k) → k.key ≡ key → option_map reached_at (slice_get places at) ≡ Some result → now ≡ slice_set places at None → IsLent places → IsTaken places now key result
 taken_keyed places now at key result k is named told set lent =
     let P : List (Option Keyed) → Type 0 = λ v. AreApart (entries_of v) in
     let found : at_key k.key (entries_of places) ≡ Some (k.region, k.window) = found_at places at k is lent.apart in
@@ -202,7 +202,7 @@ taken_keyed places now at key result k is named told set lent =
       };
     }
 
-pub taken_at : (places now : List (Option Keyed)) (at key : ℕ) (result : Option Reached) → option_map (has_key key) (slice_get places at) ≡ Some true → option_map reached_at (slice_get places at) ≡ Some result → now ≡ slice_set places at None → IsLent places → IsTaken places now key result
+pub taken_at : (places now : List (Option Keyed)) (at key : ℕ) (result : Option ReachedRegion) → option_map (has_key key) (slice_get places at) ≡ Some true → option_map reached_at (slice_get places at) ≡ Some result → now ≡ slice_set places at None → IsLent places → IsTaken places now key result
 taken_at places now at key result has told set lent =
     let (k, is, named) = found_key key (slice_get places at) has in
     taken_keyed places now at key result k is named told set lent
@@ -223,7 +223,7 @@ fuller places at y within is some full =
     let e : length (entries_of (take (at + 1) places)) ≡ length (entries_of (take at places) ++ entries_of (y ∷ [])) = ap (λ v. length (entries_of v)) (take_more places at y within ∙ ap (λ v. take at places ++ v ∷ []) (sym is)) ∙ ap length (entries_more (take at places) y) in
     e ∙ (length-append (entries_of (take at places)) (entries_of (y ∷ [])) ∙ (ap (λ n. n + length (entries_of (y ∷ []))) full ∙ ap (λ n. at + n) (one_entry y some)))
 
-at_key-append : (key : ℕ) (es fs : List (ℕ × Reached)) → at_key key es ≡ None → at_key key (es ++ fs) ≡ at_key key fs
+at_key-append : (key : ℕ) (es fs : List (ℕ × ReachedRegion)) → at_key key es ≡ None → at_key key (es ++ fs) ≡ at_key key fs
 at_key-append key [] fs none = refl
 at_key-append key (e ∷ es) fs none =
     let (other, later) = not_first (tied key e.0) e.1 (at_key key es) none in
@@ -263,11 +263,11 @@ reached_here places at key y has is lent =
 pub removed_apart : (m : Lent) (k : ℕ) → map.get (map.remove m k) k ≡ None
 removed_apart m k = map.get-remove nat_cmp_total m k k ∙ ap (λ b. cond b None (map.get m k)) (with_itself k)
 
-inserted_twice : (b : Bool) (v o : Option Reached) → cond b v (cond b None o) ≡ cond b v o
+inserted_twice : (b : Bool) (v o : Option ReachedRegion) → cond b v (cond b None o) ≡ cond b v o
 inserted_twice true v o = refl
 inserted_twice false v o = refl
 
-pub insert-remove : (m : Lent) (k : ℕ) (v : Reached) → map.insert (map.remove m k) k v ≡ map.insert m k v
+pub insert-remove : (m : Lent) (k : ℕ) (v : ReachedRegion) → map.insert (map.remove m k) k v ≡ map.insert m k v
 insert-remove m k v =
     map.same_map nat_cmp_total nat_cmp-IsAntisymmetric _ _ (λ q.
     map.get-insert nat_cmp_total (map.remove m k) k v q
@@ -281,18 +281,18 @@ no_more_entries (None ∷ places) = omega (arith, no_more_entries places)
 no_more_entries (Some k ∷ places) = omega (arith, no_more_entries places)
 
 -- there is a place for a key that was taken out
-pub has_room : (places : List (Option Keyed)) (k : ℕ) (v : Reached) → IsLent places → map.get (map.from_entries {R = nat_cmp} (entries_of places)) k ≡ Some v → map.len (map.remove (map.from_entries {R = nat_cmp} (entries_of places)) k) < LENT_REGIONS
+pub has_room : (places : List (Option Keyed)) (k : ℕ) (v : ReachedRegion) → IsLent places → map.get (map.from_entries {R = nat_cmp} (entries_of places)) k ≡ Some v → map.len (map.remove (map.from_entries {R = nat_cmp} (entries_of places)) k) < LENT_REGIONS
 has_room places k v lent there =
     let m : Lent = map.from_entries {R = nat_cmp} (entries_of places) in
     let less : map.len (map.remove m k) ≡ map.len m - 1 = map.len-remove nat_cmp_total m k ∙ ap (λ o. cond (is_some o) (map.len m - 1) (map.len m)) there in
     omega (arith, less, len_of_entries (entries_of places) lent.apart, no_more_entries places, lent.count)
 
-put_back : (b : Bool) (v o : Option Reached) → (b ≡ true → o ≡ v) → cond b v o ≡ o
+put_back : (b : Bool) (v o : Option ReachedRegion) → (b ≡ true → o ≡ v) → cond b v o ≡ o
 put_back true v o same = sym (same refl)
 put_back false v o same = refl
 
 -- a region that is put back as it was changes nothing
-pub insert-same : (m : Lent) (k : ℕ) (v : Reached) → map.get m k ≡ Some v → map.insert m k v ≡ m
+pub insert-same : (m : Lent) (k : ℕ) (v : ReachedRegion) → map.get m k ≡ Some v → map.insert m k v ≡ m
 insert-same m k v there =
     map.same_map nat_cmp_total nat_cmp-IsAntisymmetric _ _ (λ q.
     map.get-insert nat_cmp_total m k v q
@@ -306,11 +306,11 @@ remove-none m k none =
     ∙ put_back (tied q k) None (map.get m q) (λ h. ap (map.get m) (tied_same q k h) ∙ none))
 
 -- a region that was taken out of places goes back into them
-pub goes_back : (places : List (Option Keyed)) (m rest : Lent) (k : ℕ) (v : Reached) → IsLent places → map.from_entries {R = nat_cmp} (entries_of places) ≡ m → Some v ≡ map.get m k → rest ≡ map.remove m k → (map.len rest < LENT_REGIONS) × (map.get rest k ≡ None)
+pub goes_back : (places : List (Option Keyed)) (m rest : Lent) (k : ℕ) (v : ReachedRegion) → IsLent places → map.from_entries {R = nat_cmp} (entries_of places) ≡ m → Some v ≡ map.get m k → rest ≡ map.remove m k → (map.len rest < LENT_REGIONS) × (map.get rest k ≡ None)
 goes_back places m rest k v lent view there is =
     let P : Lent → Type 0 = λ n. map.len n < LENT_REGIONS in
     let Q : Lent → Type 0 = λ n. map.len (map.remove n k) < LENT_REGIONS in
     (subst P (sym is) (subst Q view (has_room places k v lent (ap (λ (n : Lent). map.get n k) view ∙ sym there))), ap (λ (n : Lent). map.get n k) is ∙ removed_apart m k)
 
-pub put_again : (m rest now : Lent) (k : ℕ) (v : Reached) → rest ≡ map.remove m k → now ≡ map.insert rest k v → now ≡ map.insert m k v
+pub put_again : (m rest now : Lent) (k : ℕ) (v : ReachedRegion) → rest ≡ map.remove m k → now ≡ map.insert rest k v → now ≡ map.insert m k v
 put_again m rest now k v is put = put ∙ ap (λ (n : Lent). map.insert n k v) is ∙ insert-remove m k v

@@ -33,8 +33,8 @@ fresh object domain size rights = record {
 }
 
 -- the region after an action
-abbrev pub after : Registered → PlainAction → Registered
-after r a = record r { bytes = effect a r.bytes; actions = r.actions ++ journalled a r.bytes ∷ [] }
+abbrev pub after_action : Registered → PlainAction → Registered
+after_action r a = record r { bytes = effect a r.bytes; actions = r.actions ++ journalled a r.bytes ∷ [] }
 
 -- the region with room for one action less
 abbrev pub spent : Registered → Registered
@@ -44,7 +44,7 @@ spent r = record r { spare = r.spare - 1 }
 pub record IsDone (old : Registered) (a : PlainAction) (told : List ℕ) (new : Registered) : Type 0 where
   pub allowed : first_refusal (terms_of old) a ≡ None
   pub bytes : told ≡ read_by a old.bytes
-  pub region : new ≡ after old a
+  pub region : new ≡ after_action old a
 
 -- what each answer says: denied as the tests say, and for want of memory only where they refuse nothing
 abbrev pub ActGives : Registered → PlainAction → Acted → Registered → Type 0

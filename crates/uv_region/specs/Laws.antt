@@ -9,7 +9,7 @@ use Rattle.uv_region.specs.Refusals.{Terms, has_its_right, passes, IsAllowed, de
 use Rattle.uv_region.specs.Registered.{Registered, terms_of}
 use Rattle.uv_region.specs.Replay.{standing, effect, replay_of}
 use Rattle.uv_region.specs.Journals.{PlainJournal, journal_of, IsJournal, IsKept, GoesOn}
-use Rattle.uv_region.specs.Acting.{after}
+use Rattle.uv_region.specs.Acting.{after_action}
 use Rattle.uv_region.specs.Lent.{Lent, acting, lent_allows, lent_after, lent_with_room, MayAct, StaysKnown}
 
 -- An action that is allowed lies inside the region, in unbounded numbers, has its right and the region's domain, and
@@ -66,7 +66,7 @@ WrittenStands =
 -- What is true of every region stays so by an action that is allowed; so its journal stays a journal of it.
 
 abbrev pub ActedIsKept : Type 0
-ActedIsKept = (r : Registered) (a : PlainAction) → IsKept r → IsAllowed (terms_of r) a → CanBeMade a → IsKept (after r a)
+ActedIsKept = (r : Registered) (a : PlainAction) → IsKept r → IsAllowed (terms_of r) a → CanBeMade a → IsKept (after_action r a)
 
 -- The bytes that a journal leaves are as many as the region has.
 
@@ -82,7 +82,7 @@ abbrev pub GoesOnInTurn : Type 0
 GoesOnInTurn = (i j k : PlainJournal) → GoesOn i j → GoesOn j k → GoesOn i k
 
 abbrev pub ActedGoesOn : Type 0
-ActedGoesOn = (r : Registered) (a : PlainAction) → GoesOn (journal_of r) (journal_of (after r a))
+ActedGoesOn = (r : Registered) (a : PlainAction) → GoesOn (journal_of r) (journal_of (after_action r a))
 
 -- Room is nothing that is known of a region: whoever takes some, and then finds no memory for more, has changed nothing
 -- that counts.

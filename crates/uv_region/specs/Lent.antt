@@ -14,27 +14,27 @@ use Rattle.uv_region.specs.Actions.{PlainAction}
 use Rattle.uv_region.specs.Refusals.{refusal_by, IsAllowed}
 use Rattle.uv_region.specs.Codes.{coded_registered, coded_window}
 use Rattle.uv_region.specs.Registered.{Registered, KnownRegion, known_of, terms_of}
-use Rattle.uv_region.specs.Acting.{after, spent, read_by}
+use Rattle.uv_region.specs.Acting.{after_action, spent, read_by}
 
 -- a region, and the window that it is reached through
-abbrev pub Reached : Type 0
-Reached = Registered × Option Window
+abbrev pub ReachedRegion : Type 0
+ReachedRegion = Registered × Option Window
 
 -- the regions by key
 abbrev pub Lent : Type 0
-Lent = FinMap nat_cmp Reached
+Lent = FinMap nat_cmp ReachedRegion
 
 abbrev pub coded_lent : Coded Lent
 coded_lent = map.code coded_ℕ (coded× coded_registered (coded_option coded_window))
 
 -- the entries of the places that aren't empty, in their order
-abbrev pub entries_of : List (Option Keyed) → List (ℕ × Reached)
+abbrev pub entries_of : List (Option Keyed) → List (ℕ × ReachedRegion)
 entries_of [] = []
 entries_of (None ∷ places) = entries_of places
 entries_of (Some k ∷ places) = (k.key, (k.region, k.window)) ∷ entries_of places
 
 -- each key stands once
-abbrev pub AreApart : List (ℕ × Reached) → Type 0
+abbrev pub AreApart : List (ℕ × ReachedRegion) → Type 0
 AreApart [] = Unit {0}
 AreApart (e ∷ rest) = (find nat_cmp e.0 rest ≡ None) × AreApart rest
 
@@ -49,7 +49,7 @@ has_key key None = false
 has_key key (Some k) = key == k.key
 
 -- what stands at a place
-abbrev pub reached_at : Option Keyed → Option Reached
+abbrev pub reached_at : Option Keyed → Option ReachedRegion
 reached_at None = None
 reached_at (Some k) = Some (k.region, k.window)
 
@@ -64,7 +64,7 @@ demanded kind piece domain window = record {
 }
 
 -- whether a region that is reached so lets an action pass, and none does where there is no region
-abbrev pub reached_allows : Option Reached → Access → Piece → ℕ → Bool
+abbrev pub reached_allows : Option ReachedRegion → Access → Piece → ℕ → Bool
 reached_allows None kind piece domain = false
 reached_allows (Some r) kind piece domain = is_none (refusal_by (terms_of r.0) (demanded kind piece domain r.1))
 
@@ -90,20 +90,20 @@ via window a = record a { window = window }
 
 -- an action on the region of a key, which is there, allows it and has room for it
 pub record MayAct (lent : Lent) (key : ℕ) (a : PlainAction) : Type 0 where
-  pub reached : Reached
+  pub reached : ReachedRegion
   pub there : map.get lent key ≡ Some reached
   pub allowed : IsAllowed (terms_of reached.0) (via reached.1 a)
   pub room : 0 < reached.0.spare
 
-abbrev pub with_acted : Lent → ℕ → PlainAction → Option Reached → Lent
+abbrev pub with_acted : Lent → ℕ → PlainAction → Option ReachedRegion → Lent
 with_acted lent key a None = lent
-with_acted lent key a (Some r) = map.insert lent key (spent (after r.0 (via r.1 a)), r.1)
+with_acted lent key a (Some r) = map.insert lent key (spent (after_action r.0 (via r.1 a)), r.1)
 
 -- the regions after an action on that of a key
 abbrev pub lent_after : Lent → ℕ → PlainAction → Lent
 lent_after lent key a = with_acted lent key a (map.get lent key)
 
-abbrev pub bytes_read : PlainAction → Option Reached → List ℕ
+abbrev pub bytes_read : PlainAction → Option ReachedRegion → List ℕ
 bytes_read a None = []
 bytes_read a (Some r) = read_by a r.0.bytes
 
@@ -111,7 +111,7 @@ bytes_read a (Some r) = read_by a r.0.bytes
 abbrev pub lent_bytes : Lent → ℕ → PlainAction → List ℕ
 lent_bytes lent key a = bytes_read a (map.get lent key)
 
-abbrev pub with_room : Lent → ℕ → ℕ → Option Reached → Lent
+abbrev pub with_room : Lent → ℕ → ℕ → Option ReachedRegion → Lent
 with_room lent key more None = lent
 with_room lent key more (Some r) = map.insert lent key (record r.0 { spare = max r.0.spare more }, r.1)
 
@@ -125,7 +125,7 @@ lent_with_rooms lent [] more = lent
 lent_with_rooms lent (piece ∷ pieces) more = lent_with_rooms (lent_with_room lent piece.key more) pieces more
 
 -- what counts of a region that is reached so
-abbrev pub known_reached : Reached → KnownRegion × Option Window
+abbrev pub known_reached : ReachedRegion → KnownRegion × Option Window
 known_reached r = (known_of r.0, r.1)
 
 -- what counts of the region of a key

@@ -6,7 +6,7 @@ ghost use Rattle.uv_region.specs.Actions.{plain, is_read};
 ghost use Rattle.uv_region.specs.Refusals.{first_refusal, refusal_by, IsAllowed};
 ghost use Rattle.uv_region.specs.Registered.{terms_of};
 ghost use Rattle.uv_region.specs.Journals.{plain_journal, journal_of, IsJournalOf};
-ghost use Rattle.uv_region.specs.Acting.{read_by, length_read, journalled, fresh, after, spent, ActGives};
+ghost use Rattle.uv_region.specs.Acting.{read_by, length_read, journalled, fresh, after_action, spent, ActGives};
 
 use crate::action::{Action, Demand, Why};
 use crate::bytes::{apply, journalled, read_by, read_into};
@@ -229,7 +229,7 @@ impl Region {
         requires whole { length action.bytes.bytes ≡ action.length }
         requires allowed { IsAllowed (terms_of self.old) (plain action) }
         requires out { length out.old ≡ length_read (plain action) }
-        ensures region { self.new ≡ spent (after self.old (plain action)) }
+        ensures region { self.new ≡ spent (after_action self.old (plain action)) }
         ensures out { out.new ≡ read_by (plain action) self.old.bytes }
     {
         let made = apply(self.bytes.as_mut_slice(), action, out);
@@ -245,7 +245,7 @@ impl Region {
         requires whole { length action.bytes.bytes ≡ action.length }
         requires allowed { IsAllowed (terms_of self.old) (plain action) }
         requires spare { action.length ≤ payload.old.spare }
-        ensures region { self.new ≡ spent (after self.old (plain action)) }
+        ensures region { self.new ≡ spent (after_action self.old (plain action)) }
         ensures payload { payload.new.bytes ≡ payload.old.bytes ++ read_by (plain action) self.old.bytes }
         ensures spare { payload.old.spare ≤ payload.new.spare + action.length }
     {

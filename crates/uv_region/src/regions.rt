@@ -7,7 +7,7 @@ ghost use Rattle.uv_num.specs.declared.limits.TheConstants.{LENT_REGIONS};
 ghost use Rattle.uv_region.specs.Actions.{is_read};
 ghost use Rattle.uv_region.specs.Refusals.{IsAllowed};
 ghost use Rattle.uv_region.specs.Registered.{terms_of};
-ghost use Rattle.uv_region.specs.Acting.{length_read, read_by, after, spent};
+ghost use Rattle.uv_region.specs.Acting.{length_read, read_by, after_action, spent};
 ghost use Rattle.uv_region.specs.Lent.{entries_of, has_key, reached_at, reached_allows, lent_allows, lent_after, lent_with_room, lent_with_rooms, lent_bytes, StaysKnown, acting, via, MayAct};
 
 use crate::action::{Access, Window};
@@ -211,7 +211,7 @@ fn act_on(
     requires some { 0 < piece.length }
     requires whole { length bytes.bytes ≡ piece.length }
     requires out { length out.old ≡ length_read (acting kind piece bytes.bytes qp domain) }
-    ensures region { region.new ≡ spent (after region.old (via window (acting kind piece bytes.bytes qp domain))) }
+    ensures region { region.new ≡ spent (after_action region.old (via window (acting kind piece bytes.bytes qp domain))) }
     ensures out { out.new ≡ read_by (acting kind piece bytes.bytes qp domain) region.old.bytes }
 {
     // What is allowed lies inside the region, whose length bounds its offset.
@@ -236,7 +236,7 @@ fn read_on(
     requires some { 0 < piece.length }
     requires whole { length held.bytes ≡ piece.length }
     requires spare { piece.length ≤ payload.old.spare }
-    ensures region { region.new ≡ spent (after region.old (via window (acting kind piece held.bytes qp domain))) }
+    ensures region { region.new ≡ spent (after_action region.old (via window (acting kind piece held.bytes qp domain))) }
     ensures payload { payload.new.bytes ≡ payload.old.bytes ++ read_by (acting kind piece held.bytes qp domain) region.old.bytes }
     ensures spare { payload.old.spare ≤ payload.new.spare + piece.length }
 {

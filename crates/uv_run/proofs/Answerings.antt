@@ -11,7 +11,7 @@ use Rattle.uv_report.specs.declared.record.Said.{Said}
 use Rattle.uv_report.specs.declared.saying.Saying.{Saying}
 use Rattle.uv_script.specs.declared.form.Line.{Line}
 use Rattle.uv_run.specs.declared.asked.Asked.{Asked}
-use Rattle.uv_run.specs.Playing.{client_of, asked_of, Answers, items_by, reply_of, items_of, replies_of, PlaysAll, AnswersAll, Ends, FollowsScript}
+use Rattle.uv_run.specs.Playing.{client_of, asked_by_line, Answers, items_by, reply_of, items_of, replies_of, PlaysAll, AnswersAll, Ends, FollowsScript}
 
 -- behind the calls of one history stand those of the lines that led to another, and the replies tell their answers
 record AnswersMore (h : List Entry) (known : List Said) (lines : List Line) (g : List Entry) (saids : List Said) : Type 0 where
@@ -56,8 +56,8 @@ answers_more (l ∷ ls) h told g saids p =
       calls = λ c.
           rest.calls c
           ∙ ap (λ v. calls_of p.history c ++ items_of c v ls rest.answers) is
-          ∙ ap (λ v. v ++ items_of c (told ++ reply_of l p.plays.answer ∷ []) ls rest.answers) (calls_of-line h p.history (client_of l.form) (asked_of told l.form) p.saying p.plays c)
-          ∙ items_in_front (client_of l.form == c) (calls_of h c) (items_by (asked_of told l.form) p.plays.answer) (items_of c (told ++ reply_of l p.plays.answer ∷ []) ls rest.answers);
+          ∙ ap (λ v. v ++ items_of c (told ++ reply_of l p.plays.answer ∷ []) ls rest.answers) (calls_of-line h p.history (client_of l.form) (asked_by_line told l.form) p.saying p.plays c)
+          ∙ items_in_front (client_of l.form == c) (calls_of h c) (items_by (asked_by_line told l.form) p.plays.answer) (items_of c (told ++ reply_of l p.plays.answer ∷ []) ls rest.answers);
       told =
           p.said ∙ ap (λ (s : Saying). record { line = l.number; text = s } ∷ p.more) p.plays.told
           ∙ ap (λ m. reply_of l p.plays.answer ∷ m) rest.told;

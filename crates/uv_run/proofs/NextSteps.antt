@@ -13,7 +13,7 @@ use Rattle.uv_machine.specs.declared.entry.Word.{Word}
 use Rattle.uv_machine.specs.declared.entry.Word.TheVariants.{Reserve, Look, Make, Commit, Act, Lock, Check, Finish, Abort, Free, Exit}
 use Rattle.uv_machine.specs.declared.entry.Answer.{Answer}
 use Rattle.uv_machine.specs.declared.entry.Answer.TheVariants as answer
-use Rattle.uv_machine.specs.declared.entry.Done.{Done}
+use Rattle.uv_machine.specs.declared.entry.CallStep.{CallStep}
 use Rattle.uv_machine.specs.declared.object.Object.{Object}
 use Rattle.uv_machine.specs.declared.object.Change.TheVariants.{ToLive, ToDoomed, ToBound}
 use Rattle.uv_machine.specs.declared.call.InFlight.{InFlight}
@@ -124,8 +124,8 @@ module _ (m : State) (c : ℕ) (call : InFlight) where
   done_again : (w : Word) (t : Told) → done_as m call (found_at call w None) (kept_in (step_answer m call None 0 w t.refusal)) w t ≡ done_as m call None 0 w t
   done_again w t =
       let kept : ℕ = kept_in (step_answer m call None 0 w t.refusal) in
-      let with_found : Option QpState → Done = λ found. record { word = w; object = t.object; found = found; answer = step_answer m call (found_at call w None) kept w t.refusal } in
-      let with_answer : Answer → Done = λ a. record { word = w; object = t.object; found = found_at call w None; answer = a } in
+      let with_found : Option QpState → CallStep = λ found. record { word = w; object = t.object; found = found; answer = step_answer m call (found_at call w None) kept w t.refusal } in
+      let with_answer : Answer → CallStep = λ a. record { word = w; object = t.object; found = found_at call w None; answer = a } in
       ap with_found (found_again w) ∙ ap with_answer (answer_again w t.refusal)
 
   -- the step that is made with what it tells
@@ -138,18 +138,18 @@ module _ (m : State) (c : ℕ) (call : InFlight) where
 some_same : {X : Type 0} (x y : X) → Some x ≡ Some y → x ≡ y
 some_same x y e = cc
 
-next_from_again : (m : State) (c : ℕ) (d : Done) (slot : Option InFlight) → next_from m c None 0 slot ≡ Some d → next_from m c d.found (kept_in d.answer) slot ≡ Some d
+next_from_again : (m : State) (c : ℕ) (d : CallStep) (slot : Option InFlight) → next_from m c None 0 slot ≡ Some d → next_from m c d.found (kept_in d.answer) slot ≡ Some d
 next_from_again m c d None e = absurd (cc)
 next_from_again m c d (Some call) e =
-    let P : Done → Type 0 = λ v. Some (step_of m c v.found (kept_in v.answer) call) ≡ Some v in
+    let P : CallStep → Type 0 = λ v. Some (step_of m c v.found (kept_in v.answer) call) ≡ Some v in
     subst P (some_same _ _ e) (ap Some (step_again m c call))
 
 -- the step that a call makes next is the one that the machine allows
-pub IsNext-next_of : (m : State) (c : ℕ) (d : Done) → next_of m c None 0 ≡ Some d → IsNext m c d
+pub IsNext-next_of : (m : State) (c : ℕ) (d : CallStep) → next_of m c None 0 ≡ Some d → IsNext m c d
 IsNext-next_of m c d e = next_from_again m c d (call_of m c) e
 
 -- a call is in flight where there is a next step
-pub flight-next_from : (m : State) (c : ℕ) (d : Done) (slot : Option InFlight) → next_from m c None 0 slot ≡ Some d → is_none slot ≡ false
+pub flight-next_from : (m : State) (c : ℕ) (d : CallStep) (slot : Option InFlight) → next_from m c None 0 slot ≡ Some d → is_none slot ≡ false
 flight-next_from m c d None e = absurd (cc)
 flight-next_from m c d (Some call) e = refl
 

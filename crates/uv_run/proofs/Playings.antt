@@ -7,7 +7,7 @@ use Rattle.uv_script.specs.declared.form.Line.{Line}
 use Rattle.uv_report.specs.declared.saying.Saying.{Saying}
 use Rattle.uv_report.specs.declared.record.Said.{Said}
 use Rattle.uv_run.specs.Playing.{Plays, PlaysAll}
-use Rattle.uv_run.specs.Kept.{Kept}
+use Rattle.uv_run.specs.Kept.{KeptMachine}
 use Rattle.uv_run.specs.Between.{IsBetween}
 use Rattle.uv_run.proofs.Progress.{IsPlayed}
 use Rattle.uv_run.proofs.Beginnings.{between_at_start}
@@ -45,13 +45,13 @@ PlaysAll-snoc h told (x ∷ ls) h' saids l h'' s played more =
     }
 
 -- before the first line
-pub IsPlayed-start : (lines : List Line) (machine : Kept) (replies : List Said) → machine.history ≡ [] → length lines ≤ machine.spare → replies ≡ [] → IsPlayed lines 0 machine replies
+pub IsPlayed-start : (lines : List Line) (machine : KeptMachine) (replies : List Said) → machine.history ≡ [] → length lines ≤ machine.spare → replies ≡ [] → IsPlayed lines 0 machine replies
 IsPlayed-start lines machine replies fresh room none =
     record { plays = (fresh, none); between = between_at_start machine.history fresh; room = omega (arith, room) }
 
 -- behind one more line
 pub IsPlayed-more :
-    (lines : List Line) (i : ℕ) (machine machine' : Kept) (replies replies' : List Said) (l : Line) (s : Saying) → IsPlayed lines i machine replies
+    (lines : List Line) (i : ℕ) (machine machine' : KeptMachine) (replies replies' : List Said) (l : Line) (s : Saying) → IsPlayed lines i machine replies
     → slice_get lines i ≡ Some l → Plays machine.history replies l machine'.history s → IsBetween machine'.history → machine.spare ≤ machine'.spare + 1
     → replies' ≡ replies ++ said_on l s ∷ [] → IsPlayed lines (i + 1) machine' replies'
 IsPlayed-more lines i machine machine' replies replies' l s played at plays between room more =

@@ -5,7 +5,7 @@ use Rattle.uv_num.specs.declared.request.Request.{Request}
 use Rattle.uv_machine.specs.declared.entry.Entry.{Entry}
 use Rattle.uv_machine.specs.declared.entry.Entry.TheVariants as entry
 use Rattle.uv_machine.specs.declared.entry.Answer.{Answer}
-use Rattle.uv_machine.specs.declared.entry.Done.{Done}
+use Rattle.uv_machine.specs.declared.entry.CallStep.{CallStep}
 use Rattle.uv_machine.specs.Effects.{refusal_in}
 use Rattle.uv_machine.specs.Calls.{Item, Opening, Calling, early_answer, at_exit, calls_with, calls_from, calls_of}
 
@@ -21,7 +21,7 @@ pub not_one : (c b : ℕ) → b ≢ c → (c == b) ≡ false
 not_one c b ne = ne_eqb c b (λ e. ne (sym e))
 
 -- the entry of a step
-abbrev pub step_entry : ℕ → Done → Entry
+abbrev pub step_entry : ℕ → CallStep → Entry
 step_entry c d = entry.Step c d.word d.object d.found d.answer
 
 -- an entry of an actor adds to that actor's calls, and to no other's
@@ -38,7 +38,7 @@ module _ (h : List Entry) (c : ℕ) where
   calls_of-enter f request a =
       calls_of-snoc h _ c ∙ ap (λ b. if b then calls_of h c ++ Calling f request (early_answer (refusal_in a)) ∷ [] else calls_of h c) itself
 
-  pub calls_of-step : (d : Done) → calls_of (h ++ step_entry c d ∷ []) c ≡ at_exit d.word d.answer (calls_of h c)
+  pub calls_of-step : (d : CallStep) → calls_of (h ++ step_entry c d ∷ []) c ≡ at_exit d.word d.answer (calls_of h c)
   calls_of-step d = calls_of-snoc h _ c ∙ ap (λ b. if b then at_exit d.word d.answer (calls_of h c) else calls_of h c) itself
 
   module _ (b : ℕ) (ne : b ≢ c) where
@@ -49,5 +49,5 @@ module _ (h : List Entry) (c : ℕ) where
     others-enter f request a =
         calls_of-snoc h _ b ∙ ap (λ v. if v then calls_of h b ++ Calling f request (early_answer (refusal_in a)) ∷ [] else calls_of h b) (not_one c b ne)
 
-    pub others-step : (d : Done) → calls_of (h ++ step_entry c d ∷ []) b ≡ calls_of h b
+    pub others-step : (d : CallStep) → calls_of (h ++ step_entry c d ∷ []) b ≡ calls_of h b
     others-step d = calls_of-snoc h _ b ∙ ap (λ v. if v then at_exit d.word d.answer (calls_of h b) else calls_of h b) (not_one c b ne)

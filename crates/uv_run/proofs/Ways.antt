@@ -10,7 +10,7 @@ use Rattle.uv_machine.specs.declared.entry.Entry.{Entry}
 use Rattle.uv_machine.specs.declared.entry.Entry.TheVariants as entry
 use Rattle.uv_machine.specs.declared.entry.Answer.{Answer}
 use Rattle.uv_machine.specs.declared.entry.Answer.TheVariants as answer
-use Rattle.uv_machine.specs.declared.entry.Done.{Done}
+use Rattle.uv_machine.specs.declared.entry.CallStep.{CallStep}
 use Rattle.uv_machine.specs.declared.entry.Word.{Word}
 use Rattle.uv_machine.specs.declared.entry.Word.TheVariants.{Reserve, Look, Make, Commit, Act, Lock, Check, Finish, Abort, Free, Exit}
 use Rattle.uv_machine.specs.declared.call.InFlight.{InFlight}
@@ -39,19 +39,19 @@ IsActor-client c client = (client.first, omega (arith, client.last))
 -- A step.
 
 -- a step that is next is allowed
-pub Allowed-next : (h : List Entry) (c : ℕ) (d : Done) → IsClient c → next_of (state_of h) c None 0 ≡ Some d → Allowed (state_of h) (step_entry c d)
+pub Allowed-next : (h : List Entry) (c : ℕ) (d : CallStep) → IsClient c → next_of (state_of h) c None 0 ≡ Some d → Allowed (state_of h) (step_entry c d)
 Allowed-next h c d client e = (IsActor-client c client, IsNext-next_of (state_of h) c d e)
 
 -- a step that is made leaves fewer ahead
 pub steps_ahead-next :
-    (h : List Entry) (c : ℕ) (d : Done) → IsClient c → next_of (state_of h) c None 0 ≡ Some d
+    (h : List Entry) (c : ℕ) (d : CallStep) → IsClient c → next_of (state_of h) c None 0 ≡ Some d
     → steps_ahead (call_of (state_of (h ++ step_entry c d ∷ [])) c) < steps_ahead (call_of (state_of h) c)
 steps_ahead-next h c d client e =
     let P : State → Type 0 = λ v. steps_ahead (call_of v c) < steps_ahead (call_of (state_of h) c) in
     subst P (sym (state_goes_on h (step_entry c d))) (steps_run_out (state_of h) c d.word d.object d.found d.answer (Allowed-next h c d client e))
 
 -- a step that is made is one more of them
-Steps-more : (s h : List Entry) (c : ℕ) (d : Done) → Steps s c h → next_of (state_of h) c None 0 ≡ Some d → Steps s c (h ++ step_entry c d ∷ [])
+Steps-more : (s h : List Entry) (c : ℕ) (d : CallStep) → Steps s c h → next_of (state_of h) c None 0 ≡ Some d → Steps s c (h ++ step_entry c d ∷ [])
 unfolding steps_of
 Steps-more s h c d steps e =
     let made : h ++ step_entry c d ∷ [] ≡ one_step h c = sym (ap (with_step h c) e) in
@@ -89,7 +89,7 @@ calls_in_flight (Some call) before now a flight calls = calls
 
 -- one more step keeps on the way
 pub IsOnWay-step :
-    (s h : List Entry) (c : ℕ) (a : Answer) (d : Done) → IsOnWay s c h a → next_of (state_of h) c None 0 ≡ Some d
+    (s h : List Entry) (c : ℕ) (a : Answer) (d : CallStep) → IsOnWay s c h a → next_of (state_of h) c None 0 ≡ Some d
     → IsLegal (h ++ step_entry c d ∷ []) → IsOnWay s c (h ++ step_entry c d ∷ []) d.answer
 IsOnWay-step s h c a d way next legal =
     let m = state_of h in

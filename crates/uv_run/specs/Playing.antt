@@ -9,7 +9,7 @@ use Rattle.uv_num.specs.declared.request.Request.TheVariants as request
 use Rattle.uv_num.specs.declared.limits.TheConstants.{ENDER, FILES, CELLS, FIRST_QP_NUMBER, NONE}
 use Rattle.uv_machine.specs.declared.entry.Entry.{Entry}
 use Rattle.uv_machine.specs.declared.entry.Entry.TheVariants as entry
-use Rattle.uv_machine.specs.declared.entry.Done.{Done}
+use Rattle.uv_machine.specs.declared.entry.CallStep.{CallStep}
 use Rattle.uv_machine.specs.declared.entry.Answer.{Answer}
 use Rattle.uv_machine.specs.declared.entry.Answer.TheVariants as answer
 use Rattle.uv_machine.specs.declared.object.Object.{Object}
@@ -34,7 +34,7 @@ use Rattle.uv_run.specs.declared.asked.Asked.TheVariants.{Opens, Calls, Refused}
 
 -- A call to its end.
 
-abbrev pub with_step : List Entry → ℕ → Option Done → List Entry
+abbrev pub with_step : List Entry → ℕ → Option CallStep → List Entry
 with_step h c None = h
 with_step h c (Some d) = h ++ entry.Step c d.word d.object d.found d.answer ∷ []
 
@@ -104,16 +104,16 @@ handle_of told (Number handle) = handle
 handle_of told (Name n) = given told n
 
 -- what command bytes ask for: a request, or nothing where they are refused
-abbrev pub asked_by : ℕ → Result Request Errno → Asked
-asked_by file (Ok request) = Calls file request
-asked_by file (Err errno) = Refused errno
+abbrev pub asked_by_command : ℕ → Result Request Errno → Asked
+asked_by_command file (Ok request) = Calls file request
+asked_by_command file (Err errno) = Refused errno
 
 -- what a line asks of the machine, behind these texts
-abbrev pub asked_of : List Said → Form → Asked
-asked_of told (form.Open client file device) = Opens file device
-asked_of told (form.AllocPd client file) = Calls file request.AllocPd
-asked_of told (form.DeallocPd client file pd) = Calls file (request.DeallocPd (handle_of told pd))
-asked_of told (form.Raw client file command) = asked_by file command
+abbrev pub asked_by_line : List Said → Form → Asked
+asked_by_line told (form.Open client file device) = Opens file device
+asked_by_line told (form.AllocPd client file) = Calls file request.AllocPd
+asked_by_line told (form.DeallocPd client file pd) = Calls file (request.DeallocPd (handle_of told pd))
+asked_by_line told (form.Raw client file command) = asked_by_command file command
 
 -- A line.
 
@@ -141,15 +141,15 @@ pub record OpensFile (h : List Entry) (c f d : ℕ) (h' : List Entry) (a : Answe
   pub history : h' ≡ h ++ entry.Open c f d a ∷ []
 
 -- behind an enter: a refused one ends the call, an accepted one is run to its end
-abbrev pub GoesOn : List Entry → ℕ → Option Errno → List Entry → Type 0
-GoesOn h c None h' = RunsToEnd h c h'
-GoesOn h c (Some e) h' = h' ≡ h
+abbrev pub RunsCall : List Entry → ℕ → Option Errno → List Entry → Type 0
+RunsCall h c None h' = RunsToEnd h c h'
+RunsCall h c (Some e) h' = h' ≡ h
 
 -- a client makes a call on a file; want of memory at its enter aside, each answer is the machine's
 pub record MakesCall (h : List Entry) (c f : ℕ) (request : Request) (h' : List Entry) (a : Answer) : Type 0 where
   pub entered : Answer
   pub may : MayAnswer (enter_refusal (state_of h) f request) entered
-  pub goes : GoesOn (h ++ entry.Enter c f request entered ∷ []) c (refusal_in entered) h'
+  pub goes : RunsCall (h ++ entry.Enter c f request entered ∷ []) c (refusal_in entered) h'
 
 -- what is refused before the machine is asked makes no entry
 pub record IsRefused (h : List Entry) (errno : Errno) (h' : List Entry) (a : Answer) : Type 0 where
@@ -179,7 +179,7 @@ pub record Answers (h : List Entry) (c : ℕ) (asked : Asked) (h' : List Entry) 
 
 -- a line is played, behind these texts
 abbrev pub Plays : List Entry → List Said → Line → List Entry → Saying → Type 0
-Plays h told l h' s = Answers h (client_of l.form) (asked_of told l.form) h' s
+Plays h told l h' s = Answers h (client_of l.form) (asked_by_line told l.form) h' s
 
 -- All lines.
 
@@ -265,7 +265,7 @@ abbrev pub items_of : ℕ → List Said → List Line → List Answer → List I
 items_of c told [] answers = []
 items_of c told (l ∷ ls) [] = []
 items_of c told (l ∷ ls) (a ∷ answers) =
-    items_for c (client_of l.form) (items_by (asked_of told l.form) a) (items_of c (told ++ reply_of l a ∷ []) ls answers)
+    items_for c (client_of l.form) (items_by (asked_by_line told l.form) a) (items_of c (told ++ reply_of l a ∷ []) ls answers)
 
 -- the replies that tell these answers
 abbrev pub replies_of : List Line → List Answer → List Said

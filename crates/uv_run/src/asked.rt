@@ -4,7 +4,7 @@ ghost use Rattle.std.specs.Prelude.{◌≡◌, ◌<◌};
 ghost use Rattle.uv_num.specs.declared.limits.TheConstants.{FILES};
 ghost use Rattle.uv_script.specs.Ranges.{HasRanges, IsBuilt};
 ghost use Rattle.uv_run.specs.Asking.{IsClient, IsInReach};
-ghost use Rattle.uv_run.specs.Playing.{client_of, handle_of, asked_by, asked_of};
+ghost use Rattle.uv_run.specs.Playing.{client_of, handle_of, asked_by_command, asked_by_line};
 
 use crate::replies::Replies;
 use uv_num::{Errno, Request};
@@ -46,10 +46,10 @@ fn handle_of(replies: &Replies, handle: Handle) -> u32
 }
 
 /// What command bytes ask for.
-fn asked_by(file: u32, command: Result<Request, Errno>) -> Asked
+fn asked_by_command(file: u32, command: Result<Request, Errno>) -> Asked
     requires file { file < FILES }
     requires built { IsBuilt command }
-    ensures asked { result ≡ asked_by file command }
+    ensures asked { result ≡ asked_by_command file command }
     ensures range { IsInReach result }
 {
     match command {
@@ -59,9 +59,9 @@ fn asked_by(file: u32, command: Result<Request, Errno>) -> Asked
 }
 
 /// What a line asks for, after these replies.
-pub fn asked_of(replies: &Replies, form: Form) -> Asked
+pub fn asked_by_line(replies: &Replies, form: Form) -> Asked
     requires { HasRanges form }
-    ensures asked { result ≡ asked_of replies.now form }
+    ensures asked { result ≡ asked_by_line replies.now form }
     ensures range { IsInReach result }
 {
     match form {
@@ -76,6 +76,6 @@ pub fn asked_of(replies: &Replies, form: Form) -> Asked
                 pd: handle_of(replies, pd),
             },
         },
-        Form::Raw { file, command, .. } => asked_by(file, command),
+        Form::Raw { file, command, .. } => asked_by_command(file, command),
     }
 }

@@ -10,7 +10,7 @@ ghost use Rattle.uv_machine.specs.Accounts.{costs};
 use std::alloc::{AllocError, Global};
 use std::marker::Model;
 use uv_machine::{
-    Done, Entry, FilePhase, Log, Object, Readers, enter_refusal, next_step, open_refusal,
+    CallStep, Entry, FilePhase, Log, Object, Readers, enter_refusal, next_step, open_refusal,
 };
 use uv_num::{Errno, List, Request};
 
@@ -21,9 +21,9 @@ pub struct Machine {
 }
 
 impl Model for Machine {
-    ghost use Rattle.uv_run.specs.Kept.{Kept};
+    ghost use Rattle.uv_run.specs.Kept.{KeptMachine};
 
-    ghost Value = { Kept };
+    ghost Value = { KeptMachine };
 
     ghost view = { λ m. record { history = m.log.history; spare = m.log.spare } };
 }
@@ -59,7 +59,7 @@ impl Machine {
     }
 
     /// The step that an actor's call makes next, if one is in flight.
-    pub fn next_step(&self, actor: u32) -> Option<Done>
+    pub fn next_step(&self, actor: u32) -> Option<CallStep>
         ensures { result ≡ next_of (state_of self.now.history) actor None 0 }
     {
         next_step(self.log.state(), actor, None, 0)

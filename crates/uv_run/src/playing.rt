@@ -15,11 +15,11 @@ ghost use Rattle.uv_run.specs.Asking.{IsClient, IsInReach};
 ghost use Rattle.uv_run.specs.Playing.{pair_number, saying_of, taken_answer, Answers, Plays, PlaysAll};
 ghost use Rattle.uv_run.specs.Between.{IsBetween, Enters, IsOnWay};
 
-use crate::asked::{Asked, asked_of, client_of};
+use crate::asked::{Asked, asked_by_line, client_of};
 use crate::machine::Machine;
 use crate::replies::Replies;
 use std::alloc::{AllocError, Global};
-use uv_machine::{Answer, Done, Entry, owed_by};
+use uv_machine::{Answer, CallStep, Entry, owed_by};
 use uv_num::{CELLS, Errno, FIRST_QP_NUMBER, List, NONE, Request};
 use uv_report::{Said, Saying};
 use uv_script::{Line, Script};
@@ -129,7 +129,7 @@ fn enter(machine: &mut Machine, client: u32, file: u32, request: Request) -> Ans
     answer
 }
 
-fn step(client: u32, done: Done) -> Entry
+fn step(client: u32, done: CallStep) -> Entry
     ensures { result ≡ entry.Step client done.word done.object done.found done.answer }
 {
     Entry::Step {
@@ -201,7 +201,7 @@ fn play_line(machine: &mut Machine, replies: &Replies, line: Line) -> Saying
     ensures spare { machine.old.spare ≤ machine.new.spare + 1 }
 {
     let client = client_of(line.form);
-    let asked = asked_of(replies, line.form);
+    let asked = asked_by_line(replies, line.form);
     saying(ask(machine, client, asked))
 }
 

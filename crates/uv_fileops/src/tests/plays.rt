@@ -11,7 +11,7 @@ ghost use Rattle.uv_graph.specs.Turns.{IsClient, IsReady, IsTouching, is_act, ac
 use crate::{act, enter, step};
 use std::alloc::{AllocError, Global};
 use uv_graph::{Graph, Progress, identity_of};
-use uv_machine::{Answer, Done, Readers, Word};
+use uv_machine::{Answer, CallStep, Readers, Word};
 use uv_num::{Act, Errno, Kind, NONE, QpState, Request, Role};
 use uv_pool::Deed;
 use uv_pool::plain::{PlainDeed, full_pools};
@@ -32,26 +32,26 @@ pub fn new_graph(alloc: Global) -> Result<Graph<PlainDeed>, AllocError> {
     Graph::new(alloc, full_pools(alloc)?)
 }
 
-fn have_same_object(a: Done, b: Done) -> bool
+fn have_same_object(a: CallStep, b: CallStep) -> bool
     ensures { IsTrue result ↔ ((a.word ≡ b.word) × (a.object ≡ b.object)) }
 {
     a.word == b.word && a.object == b.object
 }
 
-fn have_same_answer(a: Done, b: Done) -> bool
+fn have_same_answer(a: CallStep, b: CallStep) -> bool
     ensures { IsTrue result ↔ ((a.found ≡ b.found) × (a.answer ≡ b.answer)) }
 {
     a.found == b.found && a.answer == b.answer
 }
 
-fn are_same(a: Done, b: Done) -> bool
+fn are_same(a: CallStep, b: CallStep) -> bool
     ensures { IsTrue result ↔ (a ≡ b) }
 {
     have_same_object(a, b) && have_same_answer(a, b)
 }
 
 /// Whether this is the step that the client's call makes next.
-fn is_next(graph: &Graph<PlainDeed>, client: u32, done: Done) -> bool
+fn is_next(graph: &Graph<PlainDeed>, client: u32, done: CallStep) -> bool
     ensures { IsTrue result → next_of (state_of graph.now.history) client None 0 ≡ Some done }
 {
     match graph.next_step(client, None) {
@@ -66,7 +66,7 @@ fn goes(graph: &Graph<PlainDeed>, client: u32, word: Word, object: u32, answer: 
     ensures allowed { IsTrue result → Allowed (state_of graph.now.history) (entries.Step client word object None answer) }
     ensures none { IsTrue result → out_of graph.now client ≡ None }
 {
-    let done = Done {
+    let done = CallStep {
         word,
         object,
         found: None,
