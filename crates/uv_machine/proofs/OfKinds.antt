@@ -28,7 +28,8 @@ use Rattle.uv_machine.specs.declared.call.InFlight.{InFlight}
 use Rattle.uv_machine.specs.declared.state.State.{State}
 use Rattle.uv_machine.specs.Accounts.{one_if, makes_ahead, making_comes, call_makes}
 use Rattle.uv_machine.specs.Effects.{refusal_in, with_file, opened, act, binding_of, not_with_id, not_in_file, gone_from, unless_answered, put_call}
-use Rattle.uv_machine.specs.Files.{if_doomed_by, if_doomed, released_step, released_by, is_of_kind, kind_releases_from, creates_kind, enters_for, ReleasesBelowEnters}
+use Rattle.uv_machine.specs.Made.{if_doomed, step_released, released_by}
+use Rattle.uv_machine.specs.Files.{is_of_kind, kind_releases_from, creates_kind, enters_for, ReleasesBelowEnters}
 use Rattle.uv_machine.specs.Histories.{Allowed, after, IsLegalFrom, state_from}
 use Rattle.uv_machine.specs.Objects.{has_id, is_kind, is_doomed, is_husk, live_from, doomed_from, with_change, on_object}
 use Rattle.uv_machine.specs.Plans.{next_word, own_object, acted_on, entered}
@@ -48,6 +49,13 @@ use Rattle.uv_machine.proofs.Owing.{is_making, makes_fall, calls_sum}
 use Rattle.uv_machine.proofs.Reaching.{Reached-start, Reached-after}
 use Rattle.uv_machine.proofs.Changing.{changed_if}
 use Rattle.uv_machine.proofs.Emptying.{count_same, count_changed, IsTaken, gone}
+
+-- what a step of the call releases
+abbrev released_step : State → ℕ → Word → Option Object
+released_step m o w = step_released w (object_with m o)
+
+abbrev if_doomed_by : Bool → Object → Option Object
+if_doomed_by b x = if b then Some x else None
 
 -- What counts: the objects of the kind that weren't released, and the calls that can still make one.
 

@@ -27,7 +27,8 @@ use Rattle.uv_machine.specs.declared.call.InFlight.{InFlight}
 use Rattle.uv_machine.specs.declared.state.State.{State}
 use Rattle.uv_machine.specs.Accounts.{one_if}
 use Rattle.uv_machine.specs.Effects.{refusal_in, with_file, in_phase, opened, dissociated, act, binding_of, not_with_id, not_in_file, gone_from, unless_answered, put_call}
-use Rattle.uv_machine.specs.Files.{goes_on_to, PhaseGoesOn, WasTorn, ClosedWasTorn, TearingWasTorn, is_over, OverIsIdle, OverIsEmpty, MadeIsReleased}
+use Rattle.uv_machine.specs.Filed.{is_over}
+use Rattle.uv_machine.specs.Files.{goes_on_to, PhaseGoesOn, WasTorn, ClosedWasTorn, TearingWasTorn, OverIsIdle, OverIsEmpty, MadeIsReleased}
 use Rattle.uv_machine.specs.Histories.{Allowed, after, IsLegalFrom, IsLegal, state_from, state_of}
 use Rattle.uv_machine.specs.Laws.{is_of, moves}
 use Rattle.uv_machine.specs.Objects.{in_file, on_object}

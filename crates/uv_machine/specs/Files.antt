@@ -8,8 +8,6 @@ use Rattle.uv_num.specs.declared.request.Role.TheVariants.{Creates, Destroys, Ac
 use Rattle.uv_num.specs.Request.{role_of}
 use Rattle.uv_machine.specs.declared.entry.Entry.{Entry}
 use Rattle.uv_machine.specs.declared.entry.Entry.TheVariants.{Open, Enter, Step, Unplug, Tear, Kill, Gone, Dissociated, Closed}
-use Rattle.uv_machine.specs.declared.entry.Word.{Word}
-use Rattle.uv_machine.specs.declared.entry.Word.TheVariants.{Reserve, Look, Make, Commit, Act, Lock, Check, Finish, Abort, Free, Exit}
 use Rattle.uv_machine.specs.declared.file.File.{File}
 use Rattle.uv_machine.specs.declared.file.FilePhase.{FilePhase}
 use Rattle.uv_machine.specs.declared.file.FilePhase.TheVariants as file
@@ -20,9 +18,11 @@ use Rattle.uv_machine.specs.Effects.{refusal_in}
 use Rattle.uv_machine.specs.Histories.{Allowed, after, IsLegal, state_of}
 use Rattle.uv_machine.specs.Laws.{IsIdle}
 use Rattle.uv_machine.specs.Lives.{releases_in}
-use Rattle.uv_machine.specs.Objects.{is_doomed, is_kind}
+use Rattle.uv_machine.specs.Objects.{is_kind}
+use Rattle.uv_machine.specs.Filed.{is_over}
+use Rattle.uv_machine.specs.Made.{released_by}
 use Rattle.uv_machine.specs.Reached.{IsIn}
-use Rattle.uv_machine.specs.States.{object_with, phase_of, device_of, is_fresh, start}
+use Rattle.uv_machine.specs.States.{phase_of, device_of, is_fresh, start}
 
 -- The phases.
 
@@ -86,14 +86,7 @@ TearingWasTorn = (h : List Entry) (f by : ℕ) → IsLegal h → phase_of (state
 
 -- Files that are over.
 
--- the file was never opened, or is closed
-abbrev pub is_over : FilePhase → Bool
-is_over file.Fresh = true
-is_over file.Open = false
-is_over (file.Tearing by) = false
-is_over file.Dissociated = false
-is_over file.Closed = true
-
+-- each file was never opened, or is closed
 abbrev pub AreOver : State → Type 0
 AreOver m = (f : ℕ) → is_over (phase_of m f) ≡ true
 
@@ -109,40 +102,6 @@ abbrev pub MadeIsReleased : Type 0
 MadeIsReleased = (h : List Entry) (o : ℕ) → IsLegal h → AreOver (state_of h) → o < (state_of h).made → releases_in h o ≡ 1
 
 -- The releases of a kind.
-
-abbrev pub if_doomed_by : Bool → Object → Option Object
-if_doomed_by true x = Some x
-if_doomed_by false x = None
-
--- the object, if it is doomed
-abbrev pub if_doomed : Option Object → Option Object
-if_doomed None = None
-if_doomed (Some x) = if_doomed_by (is_doomed x.phase) x
-
-abbrev pub released_step : State → ℕ → Word → Option Object
-released_step m o Reserve = None
-released_step m o Look = None
-released_step m o Make = None
-released_step m o Commit = None
-released_step m o Act = None
-released_step m o Lock = None
-released_step m o Check = None
-released_step m o Finish = if_doomed (object_with m o)
-released_step m o Abort = None
-released_step m o Free = None
-released_step m o Exit = None
-
--- the object that an entry releases
-abbrev pub released_by : State → Entry → Option Object
-released_by m (Open c f d a) = None
-released_by m (Enter c f request a) = None
-released_by m (Step c w o found a) = released_step m o w
-released_by m (Unplug d) = None
-released_by m (Tear f by) = None
-released_by m (Kill o) = None
-released_by m (Gone o kept) = object_with m o
-released_by m (Dissociated f) = None
-released_by m (Closed f) = None
 
 abbrev pub is_of_kind : Kind → Option Object → Bool
 is_of_kind kind None = false
