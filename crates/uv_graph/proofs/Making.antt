@@ -164,7 +164,7 @@ drawn_cell : (s : Option Pool) (i j : ℕ) → j ≢ i → cell_in (option_map (
 drawn_cell None i j ne = refl
 drawn_cell (Some p) i j ne = slice_get-at_place_other p.cells i j sent_out ne
 
-drawn_deed : {D : Type 0} (s : Option (Homes D)) (i j : ℕ) → j ≢ i → deed_in (option_map (homes.drawn i) s) j ≡ deed_in s j
+drawn_deed : {D : Type 0} (s : Option (Homes D)) (i j : ℕ) → j ≢ i → deed_in (option_map (homes.deed_drawn i) s) j ≡ deed_in s j
 drawn_deed None i j ne = refl
 drawn_deed (Some pool) i j ne = deed_at-drawn_other pool i j ne
 
@@ -275,25 +275,25 @@ module _ {D : Type 0} (tell : D → DeedFacts) (log log' : Logged) (k k' : Kept)
     -- the deeds that may be drawn are those of the cells that are home
     home_as : (i : ℕ) → i < CELLS → (holder : Option Identity) → (seat_of log.history (kind_place x.kind) i).holder ≡ holder
         → IsPlaced k (option_map tell (deed_at pool_x.item i)) (option_map tell (slot_of (slice_get held (seat_place (kind_place x.kind) i)))) (kind_place x.kind) i (seat_of log.history (kind_place x.kind) i) holder
-        → (cell : Cell) → slice_get it.pool.cells i ≡ Some cell → cell.home ≡ homes.is_home tell (deed_at pool_x.item i)
+        → (cell : Cell) → slice_get it.pool.cells i ≡ Some cell → cell.home ≡ homes.is_drawable tell (deed_at pool_x.item i)
     home_as i low None e placed cell at =
         let idle = placed.0 in
         let slot = slot_tells tell (deed_at pool_x.item i) idle.deed idle.there in
         let same : cell ≡ idle.idle.cell = same_Some cell idle.idle.cell (sym at ∙ ap (λ s. cell_in s i) (sym it.pool_is) ∙ idle.idle.at.is) in
-        ap (λ (v : Cell). v.home) same ∙ not_twice idle.idle.cell.home ∙ ap not (sym idle.idle.spent ∙ ap (λ (v : DeedFacts). v.spent) (sym slot.tells)) ∙ ap (homes.is_home tell) (sym slot.is)
+        ap (λ (v : Cell). v.home) same ∙ not_twice idle.idle.cell.home ∙ ap not (sym idle.idle.spent ∙ ap (λ (v : DeedFacts). v.spent) (sym slot.tells)) ∙ ap (homes.is_drawable tell) (sym slot.is)
     home_as i low (Some holder) e placed cell at =
         let h = holds_it (state_of log.history) (kind_place x.kind) i holder e in
         let has = c_m.has h.item h.within h.stands.standing in
         let there : Some cell ≡ Some has.cell = sym at ∙ ap (λ s. cell_in s i) (sym it.pool_is) ∙ ap (λ v. cell_in (slice_get (state_of log.history).pools v) i) (sym h.stands.kind) ∙ ap (cell_in (slice_get (state_of log.history).pools (kind_place h.item.kind))) (sym h.stands.index) ∙ has.is in
-        ap (λ (v : Cell). v.home) (same_Some cell has.cell there) ∙ has.out ∙ sym (ap (homes.is_home tell) (before_none tell (deed_at pool_x.item i) placed.0))
+        ap (λ (v : Cell). v.home) (same_Some cell has.cell there) ∙ has.out ∙ sym (ap (homes.is_drawable tell) (before_none tell (deed_at pool_x.item i) placed.0))
 
     drawn_place : home_place tell pool_x.item ≡ Some x.index
     drawn_place =
         let long = c_m.cells (kind_place x.kind) it.pool it.pool_is in
         let size = was_x.size in
         let nothing : Cell = record { generation = 0; home = false } in
-        let agree : map is_home it.pool.cells ≡ map (homes.is_home tell) pool_x.item.deeds =
-        map_same is_home (homes.is_home tell) it.pool.cells pool_x.item.deeds nothing None (omega (arith, long, size))
+        let agree : map is_home it.pool.cells ≡ map (homes.is_drawable tell) pool_x.item.deeds =
+        map_same is_home (homes.is_drawable tell) it.pool.cells pool_x.item.deeds nothing None (omega (arith, long, size))
         (λ i low. home_as i (omega (arith, long, low)) (seat_of log.history (kind_place x.kind) i).holder refl
         (let P : Option (Homes D) → Type 0 = λ s. IsPlaced k (option_map tell (deed_in s i)) (option_map tell (slot_of (slice_get held (seat_place (kind_place x.kind) i)))) (kind_place x.kind) i (seat_of log.history (kind_place x.kind) i) (seat_of log.history (kind_place x.kind) i).holder in
         subst P pool_x.is (t.placed (kind_place x.kind) i (kind_within x.kind) (omega (arith, long, low))))
@@ -408,7 +408,7 @@ module _ {D : Type 0} (tell : D → DeedFacts) (log log' : Logged) (k k' : Kept)
       draws_now : pools' ≡ at_place pools (kind_place x.kind) (after_draw tell)
       draws_now = draws
 
-      drawn_pool : slice_get pools' (kind_place x.kind) ≡ Some (homes.drawn x.index pool_x.item)
+      drawn_pool : slice_get pools' (kind_place x.kind) ≡ Some (homes.deed_drawn x.index pool_x.item)
       drawn_pool =
           ap (λ v. slice_get v (kind_place x.kind)) draws ∙ slice_get-at_place_same pools (kind_place x.kind) (after_draw tell) ∙ ap (option_map (after_draw tell)) pool_x.is
           ∙ ap (λ v. Some (drawn_if v pool_x.item)) drawn_place
@@ -435,7 +435,7 @@ module _ {D : Type 0} (tell : D → DeedFacts) (log log' : Logged) (k k' : Kept)
           let Q : Option Pool → Type 0 = λ v. IsPoolFor (kind_place x.kind) v pool in
           let S : Homes D → Type 0 = λ v. IsPoolFor (kind_place x.kind) (option_map (drawn x.index) (slice_get (state_of log.history).pools (kind_place x.kind))) v in
           subst Q (sym (slice_get-at_place_same (state_of log.history).pools (kind_place x.kind) (drawn x.index)))
-          (subst S (same_Some (homes.drawn x.index pool_x.item) pool (sym drawn_pool ∙ at))
+          (subst S (same_Some (homes.deed_drawn x.index pool_x.item) pool (sym drawn_pool ∙ at))
           (record { kind = was_x.kind; size = length-set pool_x.item.deeds x.index None ∙ was_x.size; cells = drawn x.index was_x.cells; is = ap (option_map (drawn x.index)) was_x.is; next = refl })))) is))
           (λ h. (
           let Q : Option Pool → Type 0 = λ v. IsPoolFor a v pool in
