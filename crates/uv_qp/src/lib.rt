@@ -29,3 +29,6 @@ pub use ledger::{Ledger, QueueList, Which};
 pub use qp::{Posted, Qp};
 pub use state::{Message, Names, Reading, Requester, Responder};
 pub use turns::{TurnDone, TurnWord};
+
+#[cfg(test)]
+mod tests;
