@@ -25,7 +25,7 @@ none_behind : (p : ℕ) → list_any is_make (drop p []) ≡ false
 none_behind zero = refl
 none_behind (suc p) = refl
 
--- a Make comes behind these looks, and a step behind it
+-- a Make comes after these looks, and a step after it
 pub makes_behind_looks : (n : ℕ) → list_any is_make (replicate n Look ++ Make ∷ Commit ∷ []) ≡ true
 makes_behind_looks zero = refl
 makes_behind_looks (suc n) = makes_behind_looks n
@@ -74,7 +74,7 @@ one_make (Acts act) n p e = acts_make_nothing n (suc p)
 
 -- A step of the plan.
 
--- the words ahead of a call that is in its plan, and behind the step
+-- the words ahead of a call that is in its plan, and after the step
 pub record IsAhead (call : InFlight) (w : Word) (rest : List Word) : Type 0 where
   pub now : words_ahead call ≡ w ∷ rest
   pub behind : drop (next_place call.place) (plan_for call.request) ≡ rest
@@ -85,7 +85,7 @@ IsAhead-in_plan call w plan = record {
   behind = ap (λ p. drop p (plan_for call.request)) (next_place-in_plan call w plan);
 }
 
--- a call behind a step of its plan
+-- a call after a step of its plan
 pub record IsNextOf (call call' : InFlight) : Type 0 where
   pub request : call'.request ≡ call.request
   pub refusal : call'.refusal ≡ call.refusal
@@ -161,14 +161,14 @@ length-ids_behind (Two a b) e = refl
 length-ids_behind (Three a b c) e = refl
 length-ids_behind (Four a b c d) e = refl
 
--- The steps behind a turn.
+-- The steps after a turn.
 
 -- a word that makes nothing
 pub fewer_by : (b : Bool) (w s : ℕ) (call call' : InFlight) → count_of call'.reserved ≡ count_of call.reserved → free_steps call' + 1 ≤ free_steps call + w → steps_by b s call' < steps_by b (w + s) call
 fewer_by true w s call call' aborts frees = omega arith
 fewer_by false w s call call' aborts frees = omega arith
 
--- a word behind which a Make comes
+-- a word after which a Make comes
 pub fewer_before_make : (w s : ℕ) (call call' : InFlight) → free_steps call' + 1 ≤ free_steps call + w → steps_by true s call' < steps_by true (w + s) call
 fewer_before_make w s call call' frees = omega arith
 

@@ -120,7 +120,7 @@ keeps_standing ToDoomed = true
 keeps_standing ToHusk = false
 keeps_standing (ToBound binding) = true
 
-changed_husk : (b : Bool) (change : Change) (x : Object) → keeps_standing change ≡ true → is_husk (if b then with_change change x else x).phase ≡ is_husk x.phase
+pub changed_husk : (b : Bool) (change : Change) (x : Object) → keeps_standing change ≡ true → is_husk (if b then with_change change x else x).phase ≡ is_husk x.phase
 changed_husk true ToLive x e = live_husk x.phase
 changed_husk true ToDoomed x e = doomed_husk x.phase
 changed_husk true ToHusk x e = absurd cc

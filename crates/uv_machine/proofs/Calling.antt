@@ -1,4 +1,4 @@
--- Calls behind a change of one actor's place: the others, files without calls, and what calls hold for others.
+-- Calls after a change of one actor's place: the others, files without calls, and what calls hold for others.
 use Rattle.std.proofs.Common.{◌≡◌, ◌≢◌, ℕ, zero, suc, Bool, true, false, List, [], ◌∷◌, Option, Some, refl, ap, sym, ◌∙◌, ⊎_elim}
 use Rattle.std.specs.Prelude.{not, ◌||◌, ◌==◌, slice_get}
 use Rattle.std.specs.List.{list_any}
@@ -22,7 +22,7 @@ use Rattle.uv_machine.proofs.OwnCall.{OwnTurn, CallsTurn, call_stands, call_of-c
 pub call_of-other : (m m' : State) (c : ℕ) (g : Option InFlight → Option InFlight) → m'.calls ≡ at_place m.calls c g → (b : ℕ) → c ≢ b → call_of m' b ≡ call_of m b
 call_of-other m m' c g calls b ne = ap (λ v. the_call (slice_get v b)) calls ∙ ap the_call (slice_get-at_place_elsewhere m.calls c b g ne)
 
--- a call behind the change is the actor's own, or was there before
+-- a call after the change is the actor's own, or was there before
 pub data CallBehind (m : State) (c b : ℕ) (slot : Option InFlight) (k : InFlight) : Type 0 where
   IsOwn : c ≡ b → slot ≡ Some k → CallBehind m c b slot k
   IsOther : c ≢ b → call_of m b ≡ Some k → CallBehind m c b slot k
@@ -44,7 +44,7 @@ any_first : (b b' rest : Bool) → (b' || rest) ≡ true → (b' ≡ true → b 
 any_first b true rest h first = or_left b rest (first refl)
 any_first b false rest h first = or_right b rest h
 
--- a test that passes behind a change of one item passed before, if it does so for that item
+-- a test that passes after a change of one item passed before, if it does so for that item
 pub any-at_place : {X : Type 0} (p : X → Bool) (g : X → X) (xs : List X) (i : ℕ) → ((x : X) → slice_get xs i ≡ Some x → p (g x) ≡ true → p x ≡ true) → list_any p (at_place xs i g) ≡ true → list_any p xs ≡ true
 any-at_place p g [] i first h = h
 any-at_place p g (y ∷ ys) zero first h = any_first (p y) (p (g y)) (list_any p ys) h (first y refl)

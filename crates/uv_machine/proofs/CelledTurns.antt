@@ -39,7 +39,7 @@ use Rattle.uv_machine.proofs.Celled.{StandsAs, celled_as, celled_buried, celled_
 
 -- What changes leave of an object.
 
-changed_index : (b : Bool) (change : Change) (x : Object) → (if b then with_change change x else x).index ≡ x.index
+pub changed_index : (b : Bool) (change : Change) (x : Object) → (if b then with_change change x else x).index ≡ x.index
 changed_index true ToLive x = refl
 changed_index true ToDoomed x = refl
 changed_index true ToHusk x = refl
@@ -89,7 +89,7 @@ stands_map objects o change y k e =
 stands_filter : (objects : List Object) (p : Object → Bool) (y : Object) → IsIn y (filter p objects) → is_husk y.phase ≡ false → StandsAs objects y
 stands_filter objects p y k e = record { item = y; within = (Passes-filter p y objects k).within; standing = e; id = refl; kind = refl; index = refl; generation = refl }
 
-doomed_stands : (p : Phase) → is_doomed p ≡ true → is_husk p ≡ false
+pub doomed_stands : (p : Phase) → is_doomed p ≡ true → is_husk p ≡ false
 doomed_stands phase.Made e = absurd cc
 doomed_stands phase.Live e = absurd cc
 doomed_stands phase.Doomed e = refl

@@ -54,7 +54,7 @@ any_snoc : (p : ℕ → Bool) (xs : List ℕ) (n : ℕ) → list_any p (xs ++ n 
 any_snoc p [] n h = inr (or_last (p n) h)
 any_snoc p (x ∷ xs) n h = any_first (p x) (list_any p xs) (p n) (list_any p (xs ++ n ∷ [])) h (any_snoc p xs n)
 
--- one more id behind the others
+-- one more id after the others
 pub ids_of-ids_and : (looked : Ids) (n : ℕ) → length (ids_of looked) < 4 → ids_of (ids_and looked n) ≡ ids_of looked ++ n ∷ []
 ids_of-ids_and Empty n low = refl
 ids_of-ids_and (One a) n low = refl
@@ -70,7 +70,7 @@ any_ids_and u (Two a b) n h = ⊎_elim (λ k. inl k) (λ k. inr (eqb-true n u k)
 any_ids_and u (Three a b c) n h = ⊎_elim (λ k. inl k) (λ k. inr (eqb-true n u k)) (any_snoc (is_number u) (a ∷ b ∷ c ∷ []) n h)
 any_ids_and u (Four a b c d) n h = inl h
 
--- the ids behind the first, and the first alone
+-- the ids after the first, and the first alone
 any_first_alone : (u : ℕ) (looked : Ids) → list_any (is_number u) (ids_of (first_alone looked)) ≡ true → list_any (is_number u) (ids_of looked) ≡ true
 any_first_alone u Empty h = h
 any_first_alone u (One a) h = h
@@ -134,7 +134,7 @@ changed_if-husk true ToHusk x for k h = refl
 changed_if-husk true (ToBound binding) x for k h = absurd (let no = for refl in cc)
 changed_if-husk false change x for k h = k h
 
--- What has been before, where it is so behind a change.
+-- What has been before, where it is so after a change.
 
 doomed_from-made : (p : Phase) → is_made (doomed_from p) ≡ true → is_made p ≡ true
 doomed_from-made phase.Made h = h
@@ -258,7 +258,7 @@ husk_if-husk true x h = inl refl
 husk_if-husk false x h = inr h
 
 module _ (o : ℕ) (x : Object) where
-  -- what is not committed behind a commit is another object
+  -- what is not committed after a commit is another object
   pub live-made : is_made (on_object o ToLive x).phase ≡ true → x.id ≢ o
   live-made h = eqb-false x.id o (live_if-made (has_id o x) x h)
 

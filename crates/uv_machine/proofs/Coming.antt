@@ -210,7 +210,7 @@ come_gone m r o (Some x) e may =
     let doomed = (and_parts (is_doomed x.phase) (may_sweep m x.file) may).0 in
     come_map m o ToHusk (λ z y k id g. Comes.Husks z k (ap (λ (v : Object). is_doomed v.phase) (same_object m r z x k p.within (id ∙ sym (eqb-true x.id o p.test))) ∙ doomed) g)
 
--- each object behind an entry comes from somewhere
+-- each object after an entry comes from somewhere
 pub come_after : (m : State) (e : Entry) → Reached m → Allowed m e → AllCome m (after m e).objects
 come_after m (Open c f d a) r allowed = come_unless m _ (refusal_in a) (come_same m)
 come_after m (Enter c f request a) r allowed = come_unless m _ (refusal_in a) (come_same m)

@@ -94,7 +94,7 @@ pub record Counted (made : List Object) (pools : List Pool) : Type 0 where
   pub order : (k i j : ℕ) (x : Object) → slice_get (filter (is_at k i) made) j ≡ Some x → x.generation ≡ j
   pub low : (k i : ℕ) (cell : Cell) → cell_in (slice_get pools k) i ≡ Some cell → cell.generation ≤ MOST_GENERATION
 
-at_here : (z : Object) (k i : ℕ) → kind_place z.kind ≡ k → z.index ≡ i → is_at k i z ≡ true
+pub at_here : (z : Object) (k i : ℕ) → kind_place z.kind ≡ k → z.index ≡ i → is_at k i z ≡ true
 at_here z k i ek ei = both_true (eq-eqb (kind_place z.kind) k ek) (eq-eqb z.index i ei)
 
 at_other : (z : Object) (k i : ℕ) (b : Bool) → is_at k i z ≡ b → (kind_place z.kind ≡ k → z.index ≡ i → ⊥) → b ≡ false
@@ -125,7 +125,7 @@ was_home_by pools z (Some pool) is e g =
 pub was_home : (m m' : State) (z : Object) → Adds m z m' → WasHome m.pools z
 was_home m m' z adds = was_home_by m.pools z (slice_get m.pools (kind_place z.kind)) refl adds.home adds.generation
 
--- a cell behind a change of it
+-- a cell after a change of it
 came_from : (f : Cell → Cell) (s : Option Cell) (cell : Cell) → option_map f s ≡ Some cell → (c : Cell) × (s ≡ Some c) × (cell ≡ f c)
 came_from f None cell e = absurd (none-some cell e)
 came_from f (Some c) cell e = (c, refl, sym (same_Some (f c) cell e))
@@ -195,7 +195,7 @@ doomed_no_husk phase.Live e = absurd cc
 doomed_no_husk phase.Doomed e = refl
 doomed_no_husk phase.Husk e = absurd cc
 
--- a cell that was out, behind its burial: home with the next generation, or as it was where that was the last
+-- a cell that was out, after its burial: home with the next generation, or as it was where that was the last
 pub buried_by : (c : Cell) (last : Bool) → nat_le MOST_GENERATION c.generation ≡ last → c.home ≡ false → c.generation ≤ MOST_GENERATION → ((buried c).generation + out_count (buried c).home ≡ c.generation + out_count c.home) × ((buried c).generation ≤ MOST_GENERATION) × ((buried c).home ≡ false → (buried c).generation ≡ MOST_GENERATION)
 buried_by c true e out low =
     let same : buried c ≡ c = ap (λ b. if b then c else record { generation = c.generation + 1; home = true }) e in
@@ -269,7 +269,7 @@ full_at : (i : ℕ) (cell : Cell) → slice_get full_pool.cells i ≡ Some cell 
 unfolding full_pool
 full_at i cell e = full_cell i CELLS cell e
 
-start_cell : (k n i : ℕ) (cell : Cell) → cell_in (slice_get (replicate n full_pool) k) i ≡ Some cell → (cell.generation ≡ 0) × (cell.home ≡ true)
+pub start_cell : (k n i : ℕ) (cell : Cell) → cell_in (slice_get (replicate n full_pool) k) i ≡ Some cell → (cell.generation ≡ 0) × (cell.home ≡ true)
 start_cell k zero i cell e = absurd (none-some cell e)
 start_cell zero (suc n) i cell e = full_at i cell e
 start_cell (suc k) (suc n) i cell e = start_cell k n i cell e

@@ -39,7 +39,7 @@ use Rattle.uv_machine.proofs.Holding.{finish_made}
 use Rattle.uv_machine.proofs.Numbers.{Numbered, room_is, room_at}
 use Rattle.uv_machine.proofs.Coming.{Begins}
 
--- A new object, behind the others, in a cell that was home.
+-- A new object, after the others, in a cell that was home.
 
 pub record Adds (m : State) (z : Object) (m' : State) : Type 0 where
   pub begins : Begins m z

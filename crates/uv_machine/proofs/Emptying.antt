@@ -172,7 +172,7 @@ pub swept_after : (m : State) (e : Entry) (f : ℕ) → Allowed m e → may_swee
 swept_after m e f allowed swept goes =
     both_true (ap is_tearing (phase_after m f swept e allowed goes) ∙ tearing_now m f swept) (quiet_after m f swept e allowed)
 
--- Counts behind changes of lists.
+-- Counts after changes of lists.
 
 module _ {X : Type 0} (p : X → Bool) where
   -- items that a change leaves as they were, as far as the test goes
@@ -193,7 +193,7 @@ module _ {X : Type 0} (p : X → Bool) where
   count_kept k [] none = refl
   count_kept k (x ∷ xs) none = count_kept_by (k x) x xs (filter k xs) (none x (inl refl)) (count_kept k xs (λ y h. none y (inr h)))
 
-  -- nor does what is put behind
+  -- nor does what is put after
   pub count_pushed : (xs : List X) (y : X) → p y ≡ false → count_by p (xs ++ y ∷ []) ≡ count_by p xs
   count_pushed [] y none =
       let zero : members.one_if (p y) ≡ 0 = ap members.one_if none in
@@ -220,7 +220,7 @@ pub on_object-apart : (o : ℕ) (change : Change) (x : Object) → x.id ≢ o �
 on_object-apart o change x ne = ap (λ b. changed_if b change x) (ne_eqb x.id o ne)
 
 module _ (p : Object → Bool) (o : ℕ) (change : Change) where
-  -- the objects behind one of this id aren't changed
+  -- the objects after one of this id aren't changed
   count_rest : (low top : ℕ) (xs : List Object) → IsRising low xs top → o < low → count_by p (map (on_object o change) xs) ≡ count_by p xs
   count_rest low top xs rising above =
       count_same p (on_object o change) xs
@@ -388,7 +388,7 @@ live_is phase.Live h = refl
 live_is phase.Doomed h = absurd cc
 live_is phase.Husk h = absurd cc
 
--- the objects of a file that count, behind a kill and behind a going
+-- the objects of a file that count, after a kill and after a going
 module _ (m : State) (r : Reached m) (f : ℕ) (q : Phase → Bool) where
   count_killed : (o : ℕ) (t : IsTaken m o is_live) → count_by (counts f q) (map (on_object o ToDoomed) m.objects) + one_if (in_file f t.item && q phase.Live) ≡ count_by (counts f q) m.objects + one_if (in_file f t.item && q phase.Doomed)
   count_killed o t =

@@ -160,7 +160,7 @@ callable_used file.Closed e = absurd cc
 own_file : (call : InFlight) (slot : Option InFlight) (k : InFlight) → OwnTurn call slot → slot ≡ Some k → k.file ≡ call.file
 own_file call slot k own e = (keeps_request call slot k own e).file
 
--- an object behind an entry is of the file of one before it, or of this call's
+-- an object after an entry is of the file of one before it, or of this call's
 pub record FiledAs (objects : List Object) (f : ℕ) (y : Object) : Type 0 where
   pub from : ((x : Object) × IsIn x objects × (y.file ≡ x.file)) ⊎ (y.file ≡ f)
 

@@ -49,7 +49,7 @@ module _ (made : List Object) (m : State) (known : Known made m) (stand : UsesSt
   stands_live : (x : Object) → IsIn x m.objects → (o : ℕ) → IsIn o (ids_of x.uses) → StandsLive m.objects x.file o
   stands_live x k o h = stand x o k (any_in o (ids_of x.uses) h)
 
-  -- the region, behind the other uses
+  -- the region, after the other uses
   region_used : (x : Object) (k : IsIn x m.objects) (binding : Option Binding) → x.binding ≡ binding → ((o : ℕ) → IsIn o (bound_to binding) → StandsLive m.objects x.file o) → AllUsedAs m.objects x.file (bound_to binding) (region_kind binding)
   region_used x k None e stands = tt
   region_used x k (Some b) e stands =

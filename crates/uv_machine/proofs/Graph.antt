@@ -69,7 +69,7 @@ pub record GainsWell (made o : ℕ) (change : Change) (objects : List Object) : 
   pub below : (u : ℕ) → Gains change u → u < made
   pub above : (x y : Object) → IsIn x objects → IsIn y objects → x.id ≡ o → Gains change y.id → IsAbove x y
 
--- the graph of the objects behind a change
+-- the graph of the objects after a change
 module _ (made o : ℕ) (change : Change) (objects : List Object) (g : IsGraph made objects) (gains : GainsWell made o change objects) where
   above_before : (x z : Object) → IsIn x objects → IsIn z objects → (uses_object z.id x ≡ true) ⊎ ((x.id ≡ o) × Gains change z.id) → IsAbove x z
   above_before x z k h (inl used) = (g.uses x k).above z h used

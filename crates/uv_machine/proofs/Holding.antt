@@ -97,7 +97,7 @@ pub or_second : (a b : Bool) → b ≡ true → (a || (b || false)) ≡ true
 or_second true b h = refl
 or_second false b h = or_left b false h
 
--- The graph behind a turn.
+-- The graph after a turn.
 
 graph_as : (m' n : State) → m' ≡ n → IsGraph n.made n.objects → IsGraph m'.made m'.objects
 graph_as m' n e g = let P : State → Type 0 = λ s. IsGraph s.made s.objects in subst P (sym e) g

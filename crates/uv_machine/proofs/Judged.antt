@@ -18,7 +18,7 @@ pub IsJudged-start : (h : List Entry) (m : State) → m ≡ start → IsJudged h
 IsJudged-start h m e = record { state = e; legal = tt }
 
 module _ (h : List Entry) (n : ℕ) (d : Entry) (m : State) (within : n < length h) (judged : IsJudged h n m) where
-  -- what the machine allows behind the entries so far
+  -- what the machine allows after the entries so far
   allowed_there : Allowed m (slice_index_or h n d) → Allowed (state_of (take n h)) (slice_index_or h n d)
   allowed_there allowed = subst (λ s. Allowed s (slice_index_or h n d)) judged.state allowed
 

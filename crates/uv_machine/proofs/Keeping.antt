@@ -345,7 +345,7 @@ module _ (m : State) (r : Reached m) (c : ℕ) (call : InFlight) (is : call_of m
   refused_late : (e : Errno) → is_early (next_word (with_refusal e call)) ≡ true → ⊥
   refused_late e early = closing_late (with_refusal e call) (λ none. absurd (none-some e (sym none))) early
 
-  -- the words of a create behind its Make, of a destroy, and of an act behind it
+  -- the words of a create after its Make, of a destroy, and of an act after it
   create_late : (k : InFlight) (kind : Kind) → role_of k.request ≡ Creates kind → looks_in k + 1 < k.place → is_early (next_word k) ≡ true → ⊥
   create_late k kind role far early =
       let P : Role → Type 0 = λ v. IsEarlyAt v (looks_in k) k.place in

@@ -50,6 +50,7 @@ pub mod ReleasedKept
 pub mod Releases
 pub mod Rounds
 pub mod Silence
+pub mod Spent
 pub mod Standing
 pub mod Suiting
 pub mod Sums

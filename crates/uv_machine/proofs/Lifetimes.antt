@@ -40,7 +40,7 @@ use Rattle.uv_machine.proofs.Lives.{Finishing, Finishing-turn, GoesOn, goes_map}
 use Rattle.uv_machine.proofs.Releases.{Unused, unused_after, released_unused}
 use Rattle.uv_machine.proofs.Balanced.{Balanced, balanced_after, stands_slot, not_standing, not_so}
 
--- Destroys that finish, behind the entries that no call makes.
+-- Destroys that finish, after the entries that no call makes.
 
 finishing_goes : (m m' : State) → m'.calls ≡ m.calls → ((o : ℕ) → GoesOn m m'.objects o) → Finishing m → Finishing m'
 finishing_goes m m' calls goes f b k is word y h locked =

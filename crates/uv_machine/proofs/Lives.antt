@@ -66,7 +66,7 @@ changed_ending true ToHusk x e = refl
 changed_ending true (ToBound binding) x e = e
 changed_ending false change x e = e
 
--- an object that isn't merely made is ending behind its doom
+-- an object that isn't merely made is ending after its doom
 unmade_ending : (p : Phase) → is_made p ≡ false → is_ending (doomed_from p) ≡ true
 unmade_ending phase.Made e = absurd cc
 unmade_ending phase.Live e = refl

@@ -322,7 +322,7 @@ module _ (made : List Object) (m : State) (known : Known made m) where
   pub unbound : (y : Object) → StandsWell made y → y.kind ≡ Mr → y.binding ≡ None
   unbound y s kind = unbound_by made y y.binding refl s kind
 
-  -- a window uses its domain, and where it is bound the region behind it
+  -- a window uses its domain, and where it is bound the region after it
   pub record UsesDomain (x item : Object) : Type 0 where
     pub domain : ℕ
     pub first : ids_of item.uses ≡ domain ∷ []

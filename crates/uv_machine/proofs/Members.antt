@@ -1,4 +1,4 @@
--- The items of a list: at their places, among the list, and behind maps and filters.
+-- The items of a list: at their places, among the list, and after maps and filters.
 use Rattle.std.specs.Prelude.{ℕ, Bool, true, false, ◌||◌, ◌≡◌, ◌≢◌, ◌⊎◌, List, [], ◌∷◌, ◌++◌, None, Some, cond, refl, map, filter, find, reverse, slice_get, slice_set}
 use Rattle.std.specs.List.{list_any}
 use Rattle.std.proofs.Common.{zero, suc, ◌+◌, ◌≤◌, ◌<◌, count_by, ap, sym, subst, ◌∙◌, arith, inl, inr, ⊎_elim}

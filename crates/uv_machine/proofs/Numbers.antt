@@ -411,7 +411,7 @@ below_at top [] x k all = absurd k
 below_at top (y ∷ objects) x (inl e) all = let P : Object → Type 0 = λ v. place_key v < top in subst P (sym e) all.0
 below_at top (y ∷ objects) x (inr k) all = below_at top objects x k all.1
 
--- no object has the key behind the last
+-- no object has the key after the last
 keyless : (top : ℕ) (objects : List Object) → AllByRecursion (λ x. place_key x < top) objects → count_by (has_key place_key top) objects ≡ 0
 keyless top objects below = count_by-none (has_key place_key top) objects (list_any-none (has_key place_key top) objects (λ x k. ne_eqb (place_key x) top (λ e. (let low = below_at top objects x k below in omega arith))))
 

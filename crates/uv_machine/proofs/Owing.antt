@@ -64,7 +64,7 @@ is_making call slot (OwnTurn.OwnAborts ends word is) = false
 is_making call slot (OwnTurn.OwnFrees ends word is) = false
 is_making call slot (OwnTurn.OwnLeaves ends word is) = false
 
--- what is so of the Makes behind a turn
+-- what is so of the Makes after a turn
 pub record MakesFall (call : InFlight) (slot : Option InFlight) (makes : Bool) : Type 0 where
   pub owes : making_of slot + new_object_owes makes ≤ making_owes call call.refusal
   pub comes : call_makes slot + one_if makes ≤ making_comes call call.refusal

@@ -1,4 +1,4 @@
--- What a turn leaves in its own call, and that fewer steps are ahead behind it.
+-- What a turn leaves in its own call, and that fewer steps are ahead after it.
 use Rattle.std.proofs.Common.{◌≡◌, ℕ, ◌+◌, ◌<◌, ◌≤◌, true, false, Option, Some, None, length, drop, refl, ap, ◌∙◌, arith}
 use Rattle.std.specs.Prelude.{◌||◌, slice_get, option_map, sum_by}
 use Rattle.std.specs.List.{list_any}
@@ -42,7 +42,7 @@ pub data OwnTurn (call : InFlight) (slot : Option InFlight) : Type 0 where
   OwnFrees : IsClosing call → closing call ≡ Free → slot ≡ Some (without_look call) → OwnTurn call slot
   OwnLeaves : IsClosing call → closing call ≡ Exit → slot ≡ None → OwnTurn call slot
 
--- the table of calls behind a turn
+-- the table of calls after a turn
 pub record CallsTurn (m : State) (c : ℕ) (call : InFlight) (m' : State) : Type 0 where
   pub change : Option InFlight → Option InFlight
   pub calls : m'.calls ≡ at_place m.calls c change
@@ -86,7 +86,7 @@ slot_from (Some inner) call e = ap (λ (x : Option InFlight). Some x) e
 pub call_stands : (m : State) (c : ℕ) (call : InFlight) → call_of m c ≡ Some call → slice_get m.calls c ≡ Some (Some call)
 call_stands m c call e = slot_from (slice_get m.calls c) call e
 
--- the actor's call behind a change of its place
+-- the actor's call after a change of its place
 pub call_of-changed : (m m' : State) (c : ℕ) (g : Option InFlight → Option InFlight) (call : InFlight) → m'.calls ≡ at_place m.calls c g → call_of m c ≡ Some call → call_of m' c ≡ g (Some call)
 call_of-changed m m' c g call calls is =
     ap (λ v. the_call (slice_get v c)) calls
@@ -110,7 +110,7 @@ fewer_plain call call' w plan makes next aborts frees =
     let behind = steps_then call' rest (next.refusal ∙ plan.fine) (words_behind call call' w rest ahead next) in
     rw (before, behind) (fewer_by (list_any is_make rest) (word_steps w) (sum_by word_steps rest) call call' aborts frees)
 
--- behind a Reserve a Make comes
+-- after a Reserve a Make comes
 makes_behind_reserve : (call : InFlight) → InPlan call Reserve → list_any is_make (drop (call.place + 1) (plan_for call.request)) ≡ true
 makes_behind_reserve call plan =
     let s = stands_in_plan call Reserve plan in

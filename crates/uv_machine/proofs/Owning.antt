@@ -213,7 +213,7 @@ module _ (m : State) (r : Reached m) (numbered : Numbered m) (own : OwnStands m)
       let s = own_now o locked in
       record { item = s.item; within = s.within; id = s.id; held = behind s.item.phase ∙ sym (before s.item.phase) ∙ ap (λ u. is_held_at u s.item.phase) (sym word) ∙ s.held }
 
-  -- behind a refusal
+  -- after a refusal
   own_refused : (a : Answer) (m' : State) (e : Errno) (v : Word) (o : ℕ) → next_word call ≡ v → may_refuse v ≡ true → call.locked ≡ Some o → IsInPhaseFor (next_word (with_refusal e call)) m.objects o
   own_refused a m' e v o word may locked =
       rests_now v o word (λ p. refusing_rests v p may) (next_word (with_refusal e call)) (λ p. closing_rests (next_word (with_refusal e call)) p (closing_unwinds call)) locked

@@ -1,4 +1,4 @@
--- The phases of files behind entries.
+-- The phases of files after entries.
 use Rattle.std.specs.Prelude.{ℕ, false, ◌≡◌, ◌<◌, ◌++◌, List, [], ◌∷◌, Option, None, Some, refl, length, slice_get, option_map}
 use Rattle.std.proofs.Common.{ap, zero, suc, ◌∙◌, arith}
 use Rattle.uv_num.specs.declared.errno.Errno.{Errno}

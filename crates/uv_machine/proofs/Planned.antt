@@ -22,7 +22,7 @@ use Rattle.uv_machine.specs.Plans.{plan_of, plan_for, freeing, closing_word, clo
 
 -- The words of a plan.
 
--- what stands behind so many looks
+-- what stands after so many looks
 pub record IsBehind (ys : List Word) (n p : ℕ) (w : Word) : Type 0 where
   pub more : ℕ
   pub here : p ≡ n + more
@@ -31,7 +31,7 @@ pub record IsBehind (ys : List Word) (n p : ℕ) (w : Word) : Type 0 where
 behind_more : (ys : List Word) (n p : ℕ) (w : Word) → IsBehind ys n p w → IsBehind ys (suc n) (suc p) w
 behind_more ys n p w b = record { more = b.more; here = omega (arith, b.here); word = b.word }
 
--- a word behind looks is one of these, or stands behind them
+-- a word after looks is one of these, or stands after them
 pub looks_then : (ys : List Word) (n p : ℕ) (w : Word) → slice_get (replicate n Look ++ ys) p ≡ Some w → ((w ≡ Look) × (p < n)) ⊎ IsBehind ys n p w
 looks_then ys zero p w e = inr (record { more = p; here = omega arith; word = e })
 looks_then ys (suc n) zero w e = inl (sym (same_Some Look w e), omega arith)
@@ -53,7 +53,7 @@ pub record IsActing (role : Role) (place here : ℕ) : Type 0 where
   pub acts : role ≡ Acts act
   pub at : place ≡ here
 
--- a create looks behind its Reserve, an act at once
+-- a create looks after its Reserve, an act at once
 pub record IsCreateLook (role : Role) (looks place : ℕ) : Type 0 where
   pub kind : Kind
   pub creates : role ≡ Creates kind
@@ -152,7 +152,7 @@ pub record InPlan (call : InFlight) (w : Word) : Type 0 where
   pub fine : call.refusal ≡ None
   pub planned : slice_get (plan_for call.request) call.place ≡ Some w
 
--- the call is behind its plan, or behind a refusal
+-- the call is after its plan, or after a refusal
 abbrev pub IsClosing : InFlight → Type 0
 IsClosing call = call.refusal ≡ None → slice_get (plan_for call.request) call.place ≡ None
 

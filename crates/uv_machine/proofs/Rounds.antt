@@ -83,7 +83,7 @@ pub data Sooner (n j i : ℕ) : Type 0 where
   Between : n ≤ j → i < n → Sooner n j i
   BothBefore : j < i → i < n → Sooner n j i
 
--- the place behind a cell
+-- the place after a cell
 next_of_cell : (i : ℕ) → i < CELLS → (((i + 1) % CELLS ≡ i + 1) × (i + 1 < CELLS)) ⊎ (((i + 1) % CELLS ≡ 0) × (i + 1 ≡ CELLS))
 next_of_cell i low = next_by i low (nat_lt (i + 1) CELLS) refl
   where
@@ -94,7 +94,7 @@ next_of_cell i low = next_by i low (nat_lt (i + 1) CELLS) refl
 sooner_at : (n n' j i : ℕ) → n' ≡ n → Sooner n j i → Sooner n' j i
 sooner_at n n' j i e s = let P : ℕ → Type 0 = λ v. Sooner v j i in subst P (sym e) s
 
--- behind the cell i each other comes sooner
+-- after the cell i each other comes sooner
 first_sooner : (i j : ℕ) → i < CELLS → j < CELLS → i ≢ j → Sooner ((i + 1) % CELLS) j i
 first_sooner i j low low' ne =
     ⊎_elim
@@ -285,7 +285,7 @@ given_between k i j h (e ∷ es) last legal more w given =
     by_entry b rest true e' later = or_left b rest e'
     by_entry b rest false e' later = or_right b rest (later e')
 
--- behind its gift the cell waits for each other that is home
+-- after its gift the cell waits for each other that is home
 first_waits : (m m' : State) (k i j : ℕ) (cell : Cell) (new : Option Object) → Deals m new m' → is_at_some k i new ≡ true → i ≢ j → cell_in (slice_get m'.pools k) j ≡ Some cell → cell.home ≡ true → ((pool : Pool) → slice_get m'.pools k ≡ Some pool → length pool.cells ≡ CELLS) → Waits (slice_get m'.pools k) i j
 first_waits m m' k i j cell new (Deals.MakesOne z is adds) given ne at home long =
     let here : is_at k i z ≡ true = sym (ap (is_at_some k i) is) ∙ given in

@@ -106,7 +106,7 @@ IsSwept-tear h f by legal quiet allowed =
     (torn_now m f (Reached-state_of h legal) quiet callable by)
     (clear_at_tear m f (Reached-state_of h legal) quiet callable)
 
--- what is so of each item behind a function is so of the mapped list's
+-- what is so of each item after a function is so of the mapped list's
 over_map : (f : Object → Object) (P : Object → Type 0) (xs : List Object) → ((x : Object) → IsIn x xs → P (f x)) → (y : Object) → IsIn y (map f xs) → P y
 over_map f P xs each y h = let from = IsIn-map f y xs h in subst P (sym from.gives) (each from.item from.within)
 
@@ -168,7 +168,7 @@ module _ (m : State) (f by : ℕ) (r : Reached m) (quiet : is_quiet m f ≡ true
   pub kills : may_kill m x.id ≡ true
   kills = ap (may_kill_object m x.id) (find_rising 0 m.made x m.objects there r.graph.rising) ∙ ap (may_kill_in m x.id) of_file ∙ kills_in
 
-  -- behind the kill
+  -- after the kill
 
   killed_is_it : has_id x.id x ≡ true
   killed_is_it = eq-eqb x.id x.id refl
@@ -190,7 +190,7 @@ module _ (m : State) (f by : ℕ) (r : Reached m) (quiet : is_quiet m f ≡ true
   pub goes : may_go (with_object m x.id ToDoomed) x.id ≡ true
   goes = ap (may_go_object (with_object m x.id ToDoomed)) killed_found ∙ both_true killed_doomed (ap (may_sweep m) killed_file ∙ swept_now)
 
-  -- behind its going
+  -- after its going
 
   turned : gone_from (with_object m x.id ToDoomed) x.id (object_with (with_object m x.id ToDoomed) x.id) ≡ with_burial (with_object (with_object m x.id ToDoomed) x.id ToHusk) (on_object x.id ToDoomed x)
   turned = ap (gone_from (with_object m x.id ToDoomed) x.id) killed_found

@@ -73,7 +73,7 @@ number_is : (o : ℕ) (l : Option ℕ) → is_the_number o l ≡ true → l ≡ 
 number_is o None h = absurd cc
 number_is o (Some n) h = ap (λ (v : ℕ). Some v) (eqb-true n o h)
 
--- what the actor's call holds behind its turn, against the others
+-- what the actor's call holds after its turn, against the others
 pub record AloneOwn (m : State) (c : ℕ) (k : InFlight) : Type 0 where
   pub locks : (o : ℕ) → k.locked ≡ Some o → (b : ℕ) (j : InFlight) → c ≢ b → call_of m b ≡ Some j → holds o (Some j) ≡ false
   pub helds : (o b : ℕ) (j : InFlight) → c ≢ b → call_of m b ≡ Some j → j.locked ≡ Some o → holds o (Some k) ≡ false
@@ -222,7 +222,7 @@ module _ (m : State) (r : Reached m) (c : ℕ) (call : InFlight) (is : call_of m
     husk_old : (x : Object) → IsIn x m.objects → is_husk x.phase ≡ true → (may_sweep m' x.file ≡ true) ⊎ IsLeft m' x.file
     husk_old x k h = ⊎_elim (λ e. inl (swept_stays x.file e)) (λ e. inr (left_stays x.file e)) (r.husks x k h)
 
-    -- the objects behind a change
+    -- the objects after a change
     making_map : (o : ℕ) (change : Change) (v : Word) → next_word call ≡ v → v ≢ Commit → (y : Object) → IsIn y (map (on_object o change) m.objects) → is_made y.phase ≡ true → IsHeldFor m' Commit y
     making_map o change v word ne y k h =
         let from = IsIn-map (on_object o change) y m.objects k in
@@ -251,7 +251,7 @@ module _ (m : State) (r : Reached m) (c : ℕ) (call : InFlight) (is : call_of m
         let x = from.item in
         husk_to x y (ap (λ (z : Object). z.file) from.gives ∙ on_object-file o change x) (husk_old x from.within (before x (sym (ap (λ (z : Object). is_husk z.phase) from.gives) ∙ h)))
 
--- The words behind a Make and a Check.
+-- The words after a Make and a Check.
 
 behind_looks : (ys : List Word) (n p k : ℕ) → p ≡ n + k → slice_get (replicate n Look ++ ys) p ≡ slice_get ys k
 behind_looks ys zero p k e = ap (slice_get ys) (omega (arith, e))

@@ -152,7 +152,7 @@ pub record Left (m : State) (c : ℕ) (call : InFlight) (m' : State) : Type 0 wh
   pub word : closing call ≡ Exit
   pub gives : m' ≡ left m c
 
--- what a step was, with the state behind it
+-- what a step was, with the state after it
 pub data Turn (m : State) (c : ℕ) (call : InFlight) (a : Answer) (m' : State) : Type 0 where
   Refuses : Refused m c call a m' → Turn m c call a m'
   Reserves : Reserved m c call m' → Turn m c call a m'

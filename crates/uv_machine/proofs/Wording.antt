@@ -1,4 +1,4 @@
--- The words that are to come of a call, which its steps make one behind the other.
+-- The words that are to come of a call, which its steps make one after the other.
 use Rattle.std.proofs.Common.{◌≡◌, ℕ, zero, suc, ◌+◌, ◌<◌, ◌≤◌, Bool, true, false, List, [], ◌∷◌, ◌++◌, Option, Some, None, count_by, length, drop, replicate, refl, ap, sym, ◌∙◌, subst, arith, ⊎_elim, inl, inr, ◌⊎◌}
 use Rattle.std.specs.Prelude.{◌==◌, slice_get, sum_by, if◌then◌else◌}
 use Rattle.std.specs.List.{list_any}
@@ -474,7 +474,7 @@ back_step m c w o found a allowed ending =
     let back = back_turn m c t.call w a t.word was.0 was.1 m' t.turn in
     (ap words_to_come t.is ∙ (back.0 ∙ ap (λ v. w ∷ words_to_come v) (sym now)), ending_as (call_of m' c) (k.change (Some t.call)) now back.1)
 
--- the words of an entry, and of those behind it
+-- the words of an entry, and of those after it
 back_entry : (m : State) (e : Entry) (c : ℕ) → Allowed m e → enters c e ≡ false → IsEnding (call_of m c) → (words_to_come (call_of m c) ≡ word_by c e ++ words_to_come (call_of (after m e) c)) × IsEnding (call_of (after m e) c)
 back_entry m (Open b f d a) c allowed none ending = let same = call_of-after m (Open b f d a) c refl in (ap words_to_come (sym same), ending_as (call_of (after m (Open b f d a)) c) (call_of m c) same ending)
 back_entry m (Enter b f request a) c allowed none ending = let same = call_of-after m (Enter b f request a) c none in (ap words_to_come (sym same), ending_as (call_of (after m (Enter b f request a)) c) (call_of m c) same ending)

@@ -62,7 +62,7 @@ count_of (Some number) = 1
 abbrev pub free_steps : InFlight → ℕ
 free_steps call = length (ids_of call.looked) + 1
 
--- the steps behind a refusal
+-- the steps after a refusal
 abbrev pub steps_back : InFlight → ℕ
 steps_back call = count_of call.reserved + free_steps call
 

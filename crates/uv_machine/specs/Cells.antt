@@ -24,11 +24,11 @@ home_index pool = first_of_two (option_map (λ i. pool.next + i) (position is_ho
 abbrev pub sent_out : Cell → Cell
 sent_out cell = record cell { home = false }
 
--- a burial ends a life of the cell; behind the last generation it stays out for good
+-- a burial ends a life of the cell; after the last generation it stays out for good
 abbrev pub buried : Cell → Cell
 buried cell = if nat_le MOST_GENERATION cell.generation then cell else record { generation = cell.generation + 1; home = true }
 
--- a pool whose cell at this index went to a new object: the next choice begins behind it
+-- a pool whose cell at this index went to a new object: the next choice begins after it
 abbrev pub drawn : ℕ → Pool → Pool
 drawn i pool = record { cells = at_place pool.cells i sent_out; next = (i + 1) % CELLS }
 

@@ -81,7 +81,7 @@ MadeByRequest = (h : List Entry) (x : Object) → IsLegal h → IsIn x (made_in 
 abbrev pub StandsByRequest : Type 0
 StandsByRequest = (h : List Entry) (x : Object) → IsLegal h → IsIn x (state_of h).objects → IsMadeFor h x
 
--- What an object uses is, place by place, what its request looks at, and behind it the region that it is bound to.
+-- What an object uses is, place by place, what its request looks at, and after it the region that it is bound to.
 
 -- an object of this id is of the kind and file, stands there and is live
 pub record IsUsedAs (objects : List Object) (f o : ℕ) (kind : Kind) : Type 0 where

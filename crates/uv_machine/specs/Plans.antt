@@ -30,7 +30,7 @@ plan_of (Acts act) looks = replicate looks Look ++ Act ∷ []
 abbrev pub plan_for : Request → List Word
 plan_for request = plan_of (role_of request) (length (looks_of request))
 
--- the end of a call, behind its plan and behind a refusal: the number that is set aside goes back, then what was looked at is
+-- the end of a call, after its plan and after a refusal: the number that is set aside goes back, then what was looked at is
 -- freed in the order of the looks, and then the call ends
 abbrev pub freeing : Ids → Word
 freeing Empty = Exit

@@ -60,7 +60,7 @@ pub record HasInAct (call : InFlight) (looks place : ℕ) : Type 0 where
   pub ended : place ≡ looks + 1 → (count_of call.reserved ≡ 0) × (count_of call.locked ≡ 0)
   pub within : place ≤ looks + 1
 
--- behind a refusal: a create is refused before its Make, and a destroy may hold its object to the end
+-- after a refusal: a create is refused before its Make, and a destroy may hold its object to the end
 abbrev pub HasRefused : InFlight → Role → Type 0
 HasRefused call (Creates kind) = count_of call.locked ≡ 0
 HasRefused call (Destroys asked) = (count_of call.reserved ≡ 0) × (look_count call ≡ 0)

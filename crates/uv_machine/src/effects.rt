@@ -395,7 +395,7 @@ impl State {
         remove_file(&mut self.objects, file);
     }
 
-    /// Makes the whole effect of an entry. It takes no memory: behind a legal history there is room for a new object.
+    /// Makes the whole effect of an entry. It takes no memory: after a legal history there is room for a new object.
     pub fn apply(&mut self, entry: Entry)
         ensures { self.new ≡ after self.old entry }
     {

@@ -20,7 +20,9 @@ pub use accounts::{coming_covers, owed_covers};
 pub use calls::{
     calls_stand_apart, enters_with_few, idle_is_quiet, looks_are_few, make_has_place, steps_run_out,
 };
-pub use cells::{cell_is_one, cells_go_round, last_life, live_cell_is_one, lives_count};
+pub use cells::{
+    cell_is_one, cells_go_round, last_life, live_cell_is_one, lives_count, spent_is_last,
+};
 pub use clients::{calls_go_on, calls_in_flight, calls_in_order};
 pub use events::{events_count, husks_can_go};
 pub use filed::{legal_has_domains, legal_is_filed, legal_torn_well};

@@ -79,7 +79,7 @@ impl Changes<Pool> for PoolChange {
 }
 
 impl Pool {
-    /// The cell that a new object gets, if one is home: the choice goes round from the place behind the last one.
+    /// The cell that a new object gets, if one is home: the choice goes round from the place after the last one.
     pub fn home_index(&self) -> Option<u32>
         ensures index { result ≡ home_index self.now }
     {

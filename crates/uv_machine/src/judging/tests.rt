@@ -93,7 +93,7 @@ fn two_left(alloc: Global) -> Result<Vec<Entry>, AllocError> {
     Ok(history)
 }
 
-/// The first bad place of a history with more entries behind it.
+/// The first bad place of a history with more entries after it.
 fn judged_with(
     alloc: Global,
     history: &[Entry],
