@@ -375,7 +375,7 @@ fn the_least_number_is_given_out(rt: HostRuntime) -> Result<(), Fail> {
 }
 
 #[test]
-fn a_number_is_free_behind_the_finish(rt: HostRuntime) -> Result<(), Fail> {
+fn a_number_is_free_after_the_finish(rt: HostRuntime) -> Result<(), Fail> {
     let mut history = Vec::new(rt.alloc());
     history.push(opens(Answer::Ok))?;
     history.extend_from_slice(&alloc_pd(1, 0, made(0, 0, 0)))?;
@@ -388,6 +388,33 @@ fn a_number_is_free_behind_the_finish(rt: HostRuntime) -> Result<(), Fail> {
             judged_with(rt.alloc(), history.as_slice(), &beside)?,
             want,
             "{told:?}"
+        );
+    }
+    Ok(())
+}
+
+#[test]
+fn a_look_beside_a_lock_is_eio_where_the_device_is_gone(rt: HostRuntime) -> Result<(), Fail> {
+    let mut history = Vec::new(rt.alloc());
+    history.push(opens(Answer::Ok))?;
+    history.extend_from_slice(&alloc_pd(1, 0, made(0, 0, 0)))?;
+    let [enter, lock, _, _, _] = dealloc_pd(1, 0, 0);
+    let window = enters(2, Request::AllocMw { pd: 0 }, Answer::Ok);
+    let reserve = steps(2, Word::Reserve, NONE, Answer::Ok);
+    history.extend_from_slice(&[enter, lock, window, reserve])?;
+    let gone = Entry::Unplug { device: 0 };
+    let other = Entry::Unplug { device: 1 };
+    let look = |errno: Errno| steps(2, Word::Look, 0, Answer::Refused(errno));
+    for (more, want) in [
+        ([gone, look(Errno::Io)], None),
+        ([gone, look(Errno::Busy)], Some(11)),
+        ([other, look(Errno::Busy)], None),
+        ([other, look(Errno::Io)], Some(11)),
+    ] {
+        assert_eq!(rt;
+            judged_with(rt.alloc(), history.as_slice(), &more)?,
+            want,
+            "{more:?}"
         );
     }
     Ok(())
