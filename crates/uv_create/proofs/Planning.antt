@@ -6,7 +6,7 @@ use Rattle.uv_machine.specs.declared.entry.Word.TheVariants.{Act, Lock, Check, F
 use Rattle.uv_machine.specs.declared.call.InFlight.{InFlight}
 use Rattle.uv_machine.specs.Plans.{next_word}
 use Rattle.uv_machine.proofs.Planned.{IsDestroying, in_plan, stands_in_plan}
-use Rattle.uv_graph.specs.Turns.{is_create}
+use Rattle.uv_graph.specs.Conditions.{is_create}
 
 module _ (call : InFlight) (creates : is_create (role_of call.request) ≡ true) where
   never_acts : next_word call ≡ Act → ⊥

@@ -5,10 +5,12 @@ ghost use Rattle.std.specs.Prelude.{◌≡◌, None};
 ghost use Rattle.uv_machine.specs.declared.entry.Word.TheVariants as word;
 ghost use Rattle.uv_machine.specs.Effects.{refusal_in};
 ghost use Rattle.uv_machine.specs.Histories.{IsLegal};
-ghost use Rattle.uv_graph.specs.Hands.{ComesPlanted};
+ghost use Rattle.uv_graph.specs.Conditions.{ComesPlanted};
+ghost use Rattle.uv_graph.specs.Owns.{own_of};
 ghost use Rattle.uv_graph.specs.Notes.{HasNoOut};
 ghost use Rattle.uv_graph.specs.Stepping.{IsStep};
-ghost use Rattle.uv_graph.specs.Turns.{IsReady, StepGives, is_create};
+ghost use Rattle.uv_graph.specs.Conditions.{IsReady, is_create};
+ghost use Rattle.uv_graph.specs.Turns.{StepGives};
 
 use uv_graph::{Graph, Progress};
 use uv_machine::{CallStep, Word};
@@ -33,7 +35,7 @@ fn plant<D: Deed>(graph: &mut Graph<D>, client: u32, done: CallStep) -> Progress
 
 fn take_step<D: Deed>(graph: &mut Graph<D>, client: u32, done: CallStep) -> Progress<D>
     requires step { IsStep graph.old client done }
-    requires ready { IsReady is_create graph.old client }
+    requires ready { IsReady is_create (own_of graph.old client) }
     ensures gives { StepGives D.facts graph.old graph.new client result }
     ensures legal { IsLegal graph.new.history }
 {
@@ -56,7 +58,7 @@ fn take_step<D: Deed>(graph: &mut Graph<D>, client: u32, done: CallStep) -> Prog
 /// - `Plant`: the object was made; its cell's deed is to be planted for it and goes back by `planted`.
 /// - `Ended`: the exit, with the object's handle, cell index and generation, or with the call's refusal.
 pub fn step<D: Deed>(graph: &mut Graph<D>, client: u32) -> Progress<D>
-    requires { IsReady is_create graph.old client }
+    requires { IsReady is_create (own_of graph.old client) }
     ensures gives { StepGives D.facts graph.old graph.new client result }
     ensures legal { IsLegal graph.new.history }
 {
@@ -69,7 +71,7 @@ pub fn step<D: Deed>(graph: &mut Graph<D>, client: u32) -> Progress<D>
 /// Takes the deed back that `step` handed out by `Plant`, now planted for the call's object. It makes no entry, and the
 /// call's next step is its commit.
 pub fn planted<D: Deed>(graph: &mut Graph<D>, client: u32, deed: D)
-    requires { ComesPlanted graph.old client (D.facts deed) }
+    requires { ComesPlanted (own_of graph.old client) (D.facts deed) }
     ensures same { HasNoOut graph.old graph.new client }
     ensures legal { IsLegal graph.new.history }
 {

@@ -20,10 +20,12 @@ use Rattle.uv_graph.specs.declared.out.Out.{Out}
 use Rattle.uv_pool.specs.Deeds.{DeedFacts}
 use Rattle.uv_graph.specs.Hands.{HandsPlanted}
 use Rattle.uv_graph.specs.Kept.{Kept, out_of}
+use Rattle.uv_graph.specs.Owns.{own_of}
 use Rattle.uv_graph.specs.Notes.{NotesOut}
 use Rattle.uv_graph.specs.Seats.{HasOut}
 use Rattle.uv_graph.specs.Stepping.{IsStep}
-use Rattle.uv_graph.specs.Turns.{RetiresFor, IsFinishing, FinishesBy, step_entry}
+use Rattle.uv_graph.specs.Conditions.{IsFinishing}
+use Rattle.uv_graph.specs.Turns.{RetiresFor, FinishesBy, step_entry}
 use Rattle.uv_graph.proofs.Following.{next_is}
 use Rattle.uv_graph.proofs.Holders.{made_stands, doomed_stands}
 use Rattle.uv_graph.proofs.Stepped.{step_may, plain_entry}
@@ -45,7 +47,7 @@ module _ (k : Kept) (c : ℕ) (d : CallStep) (s : IsStep k c d) (word : d.word �
       let h = subst P (sym check_entry) hands in
       record { done = d; next = s.next; word = word; object = refl; hands = h; of_kind = ap (λ (v : Object). v.kind) (same_Some h.item x (sym h.there ∙ there)) }
 
--- The finish behind a retirement.
+-- The finish after a retirement.
 
 all_kept : (b : Bool) (kept : ℕ) → b ≡ false → (if b then 0 else kept) ≡ kept
 all_kept true kept e = absurd cc
@@ -55,8 +57,8 @@ stands_by : (p : Phase) → (is_made p ≡ true) ⊎ (is_doomed p ≡ true) → 
 stands_by p (inl h) = made_stands p h
 stands_by p (inr h) = doomed_stands p h
 
-module _ (k : Kept) (c kept : ℕ) (t : DeedFacts) (f : IsFinishing k c t) (out : Out) (is_out : out_of k c ≡ Some out) (has : HasOut (state_of k.history) c out) where
-  own_is : own_object f.call ≡ out.object
+module _ (k : Kept) (c kept : ℕ) (t : DeedFacts) (f : IsFinishing (own_of k c) t) (out : Out) (is_out : out_of k c ≡ Some out) (has : HasOut (state_of k.history) c out) where
+  own_is : own_object f.call ≡ out.identity.id
   own_is =
       let same : has.call ≡ f.call = same_Some has.call f.call (sym has.is ∙ f.is) in
       ap own_object (sym same) ∙ ap (λ l. unwrap_or l NONE) has.locked
@@ -68,13 +70,13 @@ module _ (k : Kept) (c kept : ℕ) (t : DeedFacts) (f : IsFinishing k c t) (out 
       ∙ all_kept (is_husk has.item.phase) kept (stands_by has.item.phase has.phase)
 
   abbrev finish_done : CallStep
-  finish_done = record { word = Finish; object = out.object; found = None; answer = answer.Kept kept }
+  finish_done = record { word = Finish; object = out.identity.id; found = None; answer = answer.Kept kept }
 
   finish_next : next_of (state_of k.history) c None kept ≡ Some finish_done
   finish_next =
       next_is (state_of k.history) c f.call Finish (own_told f.call) None kept f.is f.word refl
       ∙ ap (λ o. Some (record { word = Finish; object = o; found = None; answer = answer.Kept (kept_of (object_with (state_of k.history) (own_object f.call)) kept) })) own_is
-      ∙ ap (λ n. Some (record { word = Finish; object = out.object; found = None; answer = answer.Kept n })) keeps_all
+      ∙ ap (λ n. Some (record { word = Finish; object = out.identity.id; found = None; answer = answer.Kept n })) keeps_all
 
-  pub finished : (new : Kept) → NotesOut k new (Step c Finish out.object None (answer.Kept kept)) c None → FinishesBy k new c kept
+  pub finished : (new : Kept) → NotesOut k new (Step c Finish out.identity.id None (answer.Kept kept)) c None → FinishesBy k new c kept
   finished new notes = record { done = finish_done; next = finish_next; word = refl; answer_is = refl; notes = notes }

@@ -9,7 +9,7 @@ use Rattle.uv_machine.specs.declared.entry.Word.TheVariants.{Reserve, Look, Make
 use Rattle.uv_machine.specs.declared.call.InFlight.{InFlight}
 use Rattle.uv_machine.specs.Plans.{next_word}
 use Rattle.uv_machine.proofs.Planned.{in_plan, stands_in_plan}
-use Rattle.uv_graph.specs.Turns.{is_destroy}
+use Rattle.uv_graph.specs.Conditions.{is_destroy}
 
 module _ (call : InFlight) (destroys : is_destroy (role_of call.request) ≡ true) where
   creates_not : (kind : Kind) → role_of call.request ≡ Creates kind → ⊥

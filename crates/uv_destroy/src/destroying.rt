@@ -8,19 +8,16 @@ ghost use Rattle.uv_machine.specs.Histories.{IsLegal, state_of};
 ghost use Rattle.uv_machine.specs.Objects.{is_live, is_husk};
 ghost use Rattle.uv_machine.specs.States.{object_with};
 ghost use Rattle.uv_graph.specs.Stepping.{IsStep};
-ghost use Rattle.uv_graph.specs.Turns.{IsReady, StepGives, IsFinishing, FinishesBy, is_destroy};
+ghost use Rattle.uv_graph.specs.Conditions.{IsReady, IsFinishing, is_destroy};
+ghost use Rattle.uv_graph.specs.Owns.{own_of};
+ghost use Rattle.uv_graph.specs.Turns.{StepGives, FinishesBy};
 
 use uv_graph::{Graph, Progress};
 use uv_machine::{CallStep, Object, Readers, Word};
 use uv_pool::Deed;
 
 /// Takes an object that nothing uses out of use. A husk has been released before, and nothing is to be buried.
-fn retire_object<D: Deed>(
-    graph: &mut Graph<D>,
-    client: u32,
-    done: CallStep,
-    x: Object,
-) -> Progress<D>
+fn retire_object<D: Deed>(graph: &mut Graph<D>, client: u32, done: CallStep, x: Object) -> Progress<D>
     requires step { IsStep graph.old client done }
     requires word { done.word ≡ word.Check }
     requires fine { refusal_in done.answer ≡ None }
@@ -67,7 +64,7 @@ fn finish_husk<D: Deed>(graph: &mut Graph<D>, client: u32, done: CallStep) -> Pr
 
 fn take_step<D: Deed>(graph: &mut Graph<D>, client: u32, done: CallStep) -> Progress<D>
     requires step { IsStep graph.old client done }
-    requires ready { IsReady is_destroy graph.old client }
+    requires ready { IsReady is_destroy (own_of graph.old client) }
     ensures gives { StepGives D.facts graph.old graph.new client result }
     ensures legal { IsLegal graph.new.history }
 {
@@ -90,7 +87,7 @@ fn take_step<D: Deed>(graph: &mut Graph<D>, client: u32, done: CallStep) -> Prog
 /// - `Retire`: the object was taken out of use; its cell is to be buried by this deed, which goes back by `finish`.
 /// - `Ended`: the exit, with Ok or the call's refusal.
 pub fn step<D: Deed>(graph: &mut Graph<D>, client: u32) -> Progress<D>
-    requires { IsReady is_destroy graph.old client }
+    requires { IsReady is_destroy (own_of graph.old client) }
     ensures gives { StepGives D.facts graph.old graph.new client result }
     ensures legal { IsLegal graph.new.history }
 {
@@ -103,12 +100,12 @@ pub fn step<D: Deed>(graph: &mut Graph<D>, client: u32) -> Progress<D>
 /// Finishes the object that `step` retired (`rdma_core.c`, uverbs_destroy_uobject): the object and its handle leave, and
 /// its deed, which is buried, goes home. So many actions stand in what the object leaves.
 pub fn finish<D: Deed>(graph: &mut Graph<D>, client: u32, deed: D, kept: u64)
-    requires { IsFinishing graph.old client (D.facts deed) }
+    requires { IsFinishing (own_of graph.old client) (D.facts deed) }
     ensures finishes { FinishesBy graph.old graph.new client kept }
     ensures legal { IsLegal graph.new.history }
 {
     match graph.out_of(client) {
         None => unreachable!(),
-        Some(out) => graph.finish(client, out.object, deed, kept),
+        Some(out) => graph.finish(client, out.identity.id, deed, kept),
     }
 }

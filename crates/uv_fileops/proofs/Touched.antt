@@ -25,7 +25,8 @@ use Rattle.uv_machine.proofs.Planned.{StandsAt, unwinds, in_plan, stands_in_plan
 use Rattle.uv_machine.proofs.Phased.{act_has}
 use Rattle.uv_machine.proofs.Reaching.{Reached-state_of}
 use Rattle.uv_machine.proofs.Standing.{legal_looks_stand}
-use Rattle.uv_graph.specs.Turns.{is_act, is_exit, goes_plain, role_touches, touches_at, awaits}
+use Rattle.uv_graph.specs.Conditions.{is_act, role_touches, touches_at, awaits}
+use Rattle.uv_graph.specs.Turns.{is_exit, goes_plain}
 use Rattle.uv_graph.proofs.Holders.{object_is}
 
 -- The words of a call that acts.

@@ -7,7 +7,9 @@ ghost use Rattle.uv_machine.specs.Histories.{Allowed, IsLegal, state_of};
 ghost use Rattle.uv_graph.specs.Kept.{out_of};
 ghost use Rattle.uv_graph.specs.Notes.{Notes};
 ghost use Rattle.uv_graph.specs.Stepping.{IsAt};
-ghost use Rattle.uv_graph.specs.Turns.{is_act, touches, role_touches, awaits, step_entry, IsReady, StepGives, IsTouching, ActsBy};
+ghost use Rattle.uv_graph.specs.Conditions.{is_act, touches, role_touches, awaits, IsReady, IsTouching};
+ghost use Rattle.uv_graph.specs.Owns.{own_of};
+ghost use Rattle.uv_graph.specs.Turns.{step_entry, StepGives, ActsBy};
 ghost use Rattle.uv_fileops.specs.Acting.{IsAtAct, IsGoingOn};
 
 use uv_graph::{Graph, Progress};
@@ -120,7 +122,7 @@ fn go_on<D: Deed>(graph: &mut Graph<D>, client: u32) -> Progress<D>
 /// published under the number, EINVAL where it is of another kind, EIO where the file's device is gone, and EBUSY where a
 /// call holds it exclusively; the taking of an event with EAGAIN where there is none, or EIO where the device is gone.
 pub fn step<D: Deed>(graph: &mut Graph<D>, client: u32) -> Progress<D>
-    requires { IsReady is_act graph.old client }
+    requires { IsReady is_act (own_of graph.old client) }
     ensures gives { StepGives D.facts graph.old graph.new client result }
     ensures legal { IsLegal graph.new.history }
 {
@@ -136,11 +138,11 @@ pub fn step<D: Deed>(graph: &mut Graph<D>, client: u32) -> Progress<D>
     }
 }
 
-/// Makes the act behind `Touch` (`uverbs_cmd.c`, ib_uverbs_modify_qp and ib_uverbs_query_qp; binding a window by a call is
+/// Makes the act after `Touch` (`uverbs_cmd.c`, ib_uverbs_modify_qp and ib_uverbs_query_qp; binding a window by a call is
 /// this project's own), and answers what it tells. `found` is the state of the queue pair, for the acts that look at one.
 /// EINVAL: the table of moves doesn't have the move, or the window can't be bound so.
 pub fn act<D: Deed>(graph: &mut Graph<D>, client: u32, found: Option<QpState>) -> Answer
-    requires { IsTouching graph.old client found }
+    requires { IsTouching (own_of graph.old client) found }
     ensures acts { ActsBy graph.old graph.new client found result }
     ensures legal { IsLegal graph.new.history }
 {

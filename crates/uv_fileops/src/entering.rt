@@ -4,14 +4,14 @@ ghost use Rattle.std.specs.Prelude.{◌≡◌, ◌<◌, None, Err};
 ghost use Rattle.uv_num.specs.declared.limits.TheConstants.{FILES};
 ghost use Rattle.uv_machine.specs.declared.entry.Entry.TheVariants as entry;
 ghost use Rattle.uv_machine.specs.declared.entry.Answer.TheVariants as answer;
-ghost use Rattle.uv_machine.specs.States.{call_of};
 ghost use Rattle.uv_machine.specs.Histories.{IsLegal, state_of};
 ghost use Rattle.uv_machine.specs.Outside.{MayAnswer, enter_refusal};
-ghost use Rattle.uv_graph.specs.Kept.{spare_of};
 ghost use Rattle.uv_graph.specs.Notes.{NotesSpared};
-ghost use Rattle.uv_graph.specs.Turns.{IsClient, EnterGives, refusal_without};
+ghost use Rattle.uv_graph.specs.Conditions.{IsClient, IsFree, HasSpare};
+ghost use Rattle.uv_graph.specs.Owns.{own_of};
+ghost use Rattle.uv_graph.specs.Turns.{EnterGives, refusal_without};
 
-use std::alloc::AllocError;
+use std::alloc::{AllocError, Global};
 use uv_graph::Graph;
 use uv_machine::enter_refusal;
 use uv_num::{Errno, FILES, Request};
@@ -27,7 +27,7 @@ fn note_refusal<D: Deed>(
 ) -> Errno
     requires client { IsClient client }
     requires file { file < FILES }
-    requires free { call_of (state_of graph.old.history) client ≡ None }
+    requires free { IsFree (own_of graph.old client) }
     requires may { MayAnswer (enter_refusal (state_of graph.old.history) file request) (answer.Refused errno) }
     ensures gives { EnterGives graph.old graph.new client file request (Err result) }
     ensures legal { IsLegal graph.new.history }
@@ -48,7 +48,7 @@ fn take<D: Deed>(
 ) -> Result<(), Errno>
     requires client { IsClient client }
     requires file { file < FILES }
-    requires free { call_of (state_of graph.old.history) client ≡ None }
+    requires free { IsFree (own_of graph.old client) }
     requires may { enter_refusal (state_of graph.old.history) file request ≡ None }
     ensures gives { EnterGives graph.old graph.new client file request result }
     ensures legal { IsLegal graph.new.history }
@@ -65,13 +65,14 @@ fn take<D: Deed>(
 /// nothing is noted.
 pub fn enter<D: Deed>(
     graph: &mut Graph<D>,
+    _alloc: Global,
     client: u32,
     file: u32,
     request: &Request,
 ) -> Result<(), Errno>
     requires client { IsClient client }
     requires file { file < FILES }
-    requires free { call_of (state_of graph.old.history) client ≡ None }
+    requires free { IsFree (own_of graph.old client) }
     ensures gives { EnterGives graph.old graph.new client file request.now result }
     ensures legal { IsLegal graph.new.history }
 {
@@ -86,8 +87,8 @@ pub fn enter<D: Deed>(
 pub fn refuse<D: Deed>(graph: &mut Graph<D>, client: u32, file: u32, request: &Request) -> Errno
     requires client { IsClient client }
     requires file { file < FILES }
-    requires free { call_of (state_of graph.old.history) client ≡ None }
-    requires spare { 0 < spare_of graph.old client }
+    requires free { IsFree (own_of graph.old client) }
+    requires spare { HasSpare (own_of graph.old client) }
     ensures errno { result ≡ refusal_without (enter_refusal (state_of graph.old.history) file request.now) }
     ensures notes { NotesSpared graph.old graph.new (entry.Enter client file request.now (answer.Refused result)) client }
     ensures legal { IsLegal graph.new.history }

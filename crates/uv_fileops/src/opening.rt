@@ -5,9 +5,10 @@ ghost use Rattle.uv_num.specs.declared.limits.TheConstants.{FILES, DEVICES};
 ghost use Rattle.uv_machine.specs.declared.entry.Answer.TheVariants as answer;
 ghost use Rattle.uv_machine.specs.Histories.{IsLegal, state_of};
 ghost use Rattle.uv_machine.specs.Outside.{MayAnswer, open_refusal};
-ghost use Rattle.uv_graph.specs.Turns.{IsClient, OpenGives};
+ghost use Rattle.uv_graph.specs.Conditions.{IsClient};
+ghost use Rattle.uv_graph.specs.Turns.{OpenGives};
 
-use std::alloc::AllocError;
+use std::alloc::{AllocError, Global};
 use uv_graph::Graph;
 use uv_machine::open_refusal;
 use uv_num::{DEVICES, Errno, FILES};
@@ -53,7 +54,13 @@ fn take<D: Deed>(graph: &mut Graph<D>, client: u32, file: u32, device: u32) -> R
 /// Opens a file on a device for a client (`uverbs_main.c`, ib_uverbs_open), and takes the memory that every teardown of the
 /// file needs. EINVAL: the file was opened before. EIO: the device is unplugged. ENOMEM: there is no memory; where there is
 /// none for the refused entry either, and none is set aside for the client, nothing is noted.
-pub fn open<D: Deed>(graph: &mut Graph<D>, client: u32, file: u32, device: u32) -> Result<(), Errno>
+pub fn open<D: Deed>(
+    graph: &mut Graph<D>,
+    _alloc: Global,
+    client: u32,
+    file: u32,
+    device: u32,
+) -> Result<(), Errno>
     requires client { IsClient client }
     requires file { file < FILES }
     requires device { device < DEVICES }

@@ -2,3 +2,4 @@
 
 mod plays;
 mod rows;
+mod scenes;

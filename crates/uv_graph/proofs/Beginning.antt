@@ -1,32 +1,28 @@
 -- The beginning and the end of a graph.
-use Rattle.std.proofs.Common.{◌≡◌, ◌≢◌, ℕ, zero, suc, ◌+◌, ◌*◌, ◌≤◌, ◌<◌, Bool, true, false, List, [], ◌∷◌, ◌++◌, Option, Some, None, length, refl, ap, sym, ◌∙◌, subst, arith, inl, inr, ◌⊎◌, ⊎_elim}
-use Rattle.std.specs.Prelude.{not, sum, slice_get, replicate, find, option_map}
-use Rattle.std.proofs.lemmas.Option.{none-some, same_Some, slice_get_within}
+use Rattle.std.proofs.Common.{◌≡◌, ℕ, zero, suc, ◌*◌, ◌≤◌, ◌<◌, true, List, [], ◌∷◌, ◌++◌, Option, Some, None, length, refl, ap, sym, ◌∙◌, subst, arith}
+use Rattle.std.specs.Prelude.{sum, slice_get, replicate, find, option_map}
+use Rattle.std.proofs.lemmas.Option.{none-some, slice_get_within}
 use Rattle.uv_num.specs.declared.limits.TheConstants.{ACTOR_PLACES, CELLS, KINDS}
 use Rattle.uv_pool.specs.Homes.{Homes, deed_at}
 use Rattle.uv_machine.specs.declared.entry.Entry.{Entry}
-use Rattle.uv_machine.specs.declared.pool.Cell.{Cell}
-use Rattle.uv_machine.specs.declared.pool.Pool.{Pool}
-use Rattle.uv_machine.specs.declared.state.State.{State}
 use Rattle.uv_machine.specs.Cells.{full_pool}
 use Rattle.uv_machine.specs.States.{start}
 use Rattle.uv_machine.specs.Histories.{state_of, IsLegal}
-use Rattle.uv_machine.specs.Reached.{IsIn, cell_in}
-use Rattle.uv_graph.specs.declared.out.Out.{Out}
+use Rattle.uv_machine.specs.Reached.{cell_in}
+use Rattle.uv_machine.specs.Files.{AreOver}
 use Rattle.uv_graph.specs.Begins.{HoldsNone}
 use Rattle.uv_pool.specs.Deeds.{DeedFacts}
 use Rattle.uv_pool.specs.Filled.{AreNewPools}
-use Rattle.uv_graph.specs.Hands.{IsHomeDeed, HasHomeDeed, AreHomePools, AreOver, is_over}
+use Rattle.uv_graph.specs.Hands.{IsHomeDeed, HasHomeDeed, AreHomePools}
 use Rattle.uv_graph.specs.Kept.{Kept, the_out, out_of, kill_of}
 use Rattle.uv_num.specs.declared.identity.Identity.{Identity}
-use Rattle.uv_graph.specs.Lives.{identity_of}
+use Rattle.uv_graph.specs.Lives.{known_in, lives_in}
 use Rattle.uv_machine.specs.Logged.{Logged}
-use Rattle.uv_graph.specs.Seats.{stands_at, Seat, seat_of, slot_of, deed_in, seat_place, IsPlaced, IsUnheld, IsPoolFor, AreHandedOut, IsTied}
+use Rattle.uv_graph.specs.Seats.{stands_at, seat_of, slot_of, deed_in, seat_place, IsPlaced, IsUnheld, IsPoolFor, AreHandedOut, IsTied}
 use Rattle.uv_machine.specs.declared.object.Object.{Object}
-use Rattle.uv_machine.specs.States.{phase_of}
-use Rattle.uv_graph.proofs.Filing.{legal_filed}
+use Rattle.uv_machine.proofs.Overs.{over_is_empty}
 use Rattle.uv_graph.proofs.Making.{slot_tells}
-use Rattle.uv_graph.proofs.Planting.{HasAt, has_at}
+use Rattle.uv_graph.proofs.Planting.{has_at}
 
 none_behind : {D : Type 0} (held : List (Option D)) (i : ℕ) → slot_of (slice_get held i) ≡ None → slot_of (slice_get (held ++ None ∷ []) i) ≡ None
 none_behind [] zero e = refl
@@ -67,7 +63,7 @@ module _ {D : Type 0} (tell : D → DeedFacts) (log : Logged) (k : Kept) (pools 
       let P : List Entry → Type 0 = λ v. IsPlaced k (option_map tell (deed_in (slice_get pools n) i)) (option_map tell (slot_of (slice_get held (seat_place n i)))) n i (seat_of v n i) (seat_of v n i).holder in
       let pool = has_at pools n (let count = new.count in omega (arith, low, count)) in
       let its = (new.each n pool.item pool.is).deeds i low' in
-      let empty : (seat_of [] n i).holder ≡ None = ap (λ v. option_map identity_of (find (stands_at n i) v)) start_objects in
+      let empty : (seat_of [] n i).holder ≡ None = ap (λ v. option_map (known_in (lives_in [] n i)) (find (stands_at n i) v)) start_objects in
       let Q : Option Identity → Type 0 = λ v. IsPlaced k (option_map tell (deed_in (slice_get pools n) i)) (option_map tell (slot_of (slice_get held (seat_place n i)))) n i (seat_of [] n i) v in
       let idle : IsUnheld (option_map tell (deed_in (slice_get pools n) i)) n i (seat_of [] n i) = record {
         deed = tell its.deed;
@@ -116,19 +112,10 @@ none_out zero c = refl
 none_out (suc n) zero = refl
 none_out (suc n) (suc c) = none_out n c
 
--- where each file is over no object is left
-no_objects : (objects : List Object) → ((x : Object) → IsIn x objects → ⊥) → objects ≡ []
-no_objects [] none = refl
-no_objects (x ∷ objects) none = absurd (none x (inl refl))
-
-over_none : (h : List Entry) → IsLegal h → AreOver (state_of h) → (state_of h).objects ≡ []
-over_none h legal over =
-    no_objects (state_of h).objects (λ x k. (let used = (legal_filed h legal).objects x k in let ended = over x.file in cc))
-
 module _ {D : Type 0} (tell : D → DeedFacts) (log : Logged) (k : Kept) (pools : List (Homes D)) (held : List (Option D)) (t : IsTied tell log k pools held) (over : AreOver (state_of log.history)) where
   idle_all : (n i : ℕ) → n < KINDS → i < CELLS → IsUnheld (option_map tell (deed_in (slice_get pools n) i)) n i (seat_of log.history n i)
   idle_all n i low low' =
-      let free : (seat_of log.history n i).holder ≡ None = ap (λ v. option_map identity_of (find (stands_at n i) v)) (over_none log.history t.legal over) in
+      let free : (seat_of log.history n i).holder ≡ None = ap (λ v. option_map (known_in (lives_in log.history n i)) (find (stands_at n i) v)) (over_is_empty log.history t.legal over) in
       let P : Option Identity → Type 0 = λ v. IsPlaced k (option_map tell (deed_in (slice_get pools n) i)) (option_map tell (slot_of (slice_get held (seat_place n i)))) n i (seat_of log.history n i) v in
       (subst P free (t.placed n i low low')).0
 

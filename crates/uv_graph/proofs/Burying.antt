@@ -7,7 +7,6 @@ use Rattle.std.proofs.lemmas.Bool.{eq-eqb, eqb-true, ne_eqb}
 use Rattle.std.proofs.lemmas.Bool.Decides.{eqb_tells}
 use Rattle.uv_num.specs.declared.identity.Identity.{Identity}
 use Rattle.uv_num.specs.declared.limits.TheConstants.{MOST_GENERATION}
-use Rattle.uv_num.specs.declared.kind.Kind.{Kind}
 use Rattle.uv_num.specs.Kind.{kind_place}
 use Rattle.uv_num.specs.Place.{at_place}
 use Rattle.uv_num.proofs.PlaceLaws.{length-at_place, slice_get-at_place_same, slice_get-at_place_other}
@@ -23,7 +22,7 @@ use Rattle.uv_machine.specs.declared.object.Change.TheVariants.{ToHusk}
 use Rattle.uv_machine.specs.declared.pool.Cell.{Cell}
 use Rattle.uv_machine.specs.declared.pool.Pool.{Pool}
 use Rattle.uv_machine.specs.declared.state.State.{State}
-use Rattle.uv_machine.specs.Objects.{has_id, is_doomed, is_husk, with_change, on_object}
+use Rattle.uv_machine.specs.Objects.{has_id, is_doomed, with_change, on_object}
 use Rattle.uv_machine.specs.Cells.{buried, buried_at}
 use Rattle.uv_machine.specs.States.{object_with}
 use Rattle.uv_machine.specs.Effects.{finish, buried_if_doomed, with_burial, with_object, not_with_id, gone_from, after_step}
@@ -32,11 +31,12 @@ use Rattle.uv_machine.specs.Reached.{IsIn, Reached, IsCelled, cell_in}
 use Rattle.uv_machine.proofs.Members.{Passes-find, Passes-filter, IsIn-map}
 use Rattle.uv_machine.proofs.Holding.{finish_objects}
 use Rattle.uv_machine.proofs.Turns.{IsTurn-allowed}
+use Rattle.uv_machine.specs.Made.{is_at, new_by}
 use Rattle.uv_graph.specs.declared.out.Out.{Out}
 use Rattle.uv_pool.specs.Deeds.{DeedFacts, TellsLives, BehindBy}
 use Rattle.uv_graph.specs.Deeds.{IsDeedBuried}
 use Rattle.uv_graph.specs.Kept.{Kept, out_of, kill_of}
-use Rattle.uv_graph.specs.Lives.{identity_of, is_at, new_by, life_in, lives_in}
+use Rattle.uv_graph.specs.Lives.{known_in, life_in, lives_in, lives_out}
 use Rattle.uv_machine.specs.Logged.{Logged}
 use Rattle.uv_graph.specs.Seats.{stands_at, holder_of, seat_of, slot_of, deed_in, seat_place, IsPlaced, IsUnheld, IsAway, IsFor, IsPoolFor, HasOut, HasKill, IsTied}
 use Rattle.uv_graph.specs.Slots.{put_slot}
@@ -65,8 +65,8 @@ pub record StoodApart (m : State) (x y : Object) : Type 0 where
 -- What an entry does that releases an object.
 pub record Buries (m m' : State) (x : Object) : Type 0 where
   pub pools : m'.pools ≡ at_place m.pools (kind_place x.kind) (buried_at x.index)
-  pub here : holder_of m'.objects (kind_place x.kind) x.index ≡ None
-  pub other : (n i : ℕ) → (kind_place x.kind ≡ n → x.index ≡ i → ⊥) → holder_of m'.objects n i ≡ holder_of m.objects n i
+  pub here : (ls : List Life) → holder_of ls m'.objects (kind_place x.kind) x.index ≡ None
+  pub other : (ls : List Life) (n i : ℕ) → (kind_place x.kind ≡ n → x.index ≡ i → ⊥) → holder_of ls m'.objects n i ≡ holder_of ls m.objects n i
   pub doomed : (y : Object) → IsIn y m'.objects → is_doomed y.phase ≡ true → StoodApart m x y
 
 module _ (m : State) (r : Reached m) (c : IsCelled m.pools m.objects) (o : ℕ) (x : Object) (there : object_with m o ≡ Some x) (doomed : is_doomed x.phase ≡ true) where
@@ -114,8 +114,8 @@ module _ (m : State) (r : Reached m) (c : IsCelled m.pools m.objects) (o : ℕ) 
   pub removes : (m' : State) → m'.pools ≡ at_place m.pools (kind_place x.kind) (buried_at x.index) → m'.objects ≡ filter (not_with_id o) m.objects → Buries m m' x
   removes m' pools objects = record {
     pools = pools;
-    here = ap (λ v. holder_of v (kind_place x.kind) x.index) objects ∙ ap (option_map identity_of) (find-none (stands_at (kind_place x.kind) x.index) (filter (not_with_id o) m.objects) filtered_none);
-    other = λ n i apart. ap (λ v. holder_of v n i) objects ∙ ap (option_map identity_of) (find-filter (stands_at n i) (not_with_id o) m.objects (kept_else n i apart));
+    here = λ ls. ap (λ v. holder_of ls v (kind_place x.kind) x.index) objects ∙ ap (option_map (known_in ls)) (find-none (stands_at (kind_place x.kind) x.index) (filter (not_with_id o) m.objects) filtered_none);
+    other = λ ls n i apart. ap (λ v. holder_of ls v n i) objects ∙ ap (option_map (known_in ls)) (find-filter (stands_at n i) (not_with_id o) m.objects (kept_else n i apart));
     doomed = λ y k d. filtered_apart y (let P : List Object → Type 0 = λ v. IsIn y v in subst P objects k) d;
   }
 
@@ -149,16 +149,13 @@ module _ (m : State) (r : Reached m) (c : IsCelled m.pools m.objects) (o : ℕ) 
       let from = IsIn-map (on_object o ToHusk) y m.objects k in
       ap (stands_at (kind_place x.kind) x.index) from.gives ∙ mapped_none from.item from.within (has_id o from.item) refl
 
-  same_known : (b : Bool) (y : Object) → is_husk (if b then with_change ToHusk y else y).phase ≡ false → identity_of (if b then with_change ToHusk y else y) ≡ identity_of y
-  same_known true y e = absurd cc
-  same_known false y e = refl
+  same_known : (ls : List Life) (b : Bool) (y : Object) → known_in ls (if b then with_change ToHusk y else y) ≡ known_in ls y
+  same_known ls true y = refl
+  same_known ls false y = refl
 
-  known_else : (n i : ℕ) (slot : Option Object) → find (stands_at n i) m.objects ≡ slot → (kind_place x.kind ≡ n → x.index ≡ i → ⊥) → option_map identity_of (option_map (on_object o ToHusk) slot) ≡ option_map identity_of slot
-  known_else n i None e apart = refl
-  known_else n i (Some y) e apart =
-      let p = Passes-find (stands_at n i) y m.objects e in
-      let stands = stands_parts n i (on_object o ToHusk y) (same_at n i apart y p.within (has_id o y) refl ∙ p.test) in
-      ap (λ (v : Identity). Some v) (same_known (has_id o y) y stands.standing)
+  known_else : (ls : List Life) (n i : ℕ) (slot : Option Object) → find (stands_at n i) m.objects ≡ slot → (kind_place x.kind ≡ n → x.index ≡ i → ⊥) → option_map (known_in ls) (option_map (on_object o ToHusk) slot) ≡ option_map (known_in ls) slot
+  known_else ls n i None e apart = refl
+  known_else ls n i (Some y) e apart = ap (λ (v : Identity). Some v) (same_known ls (has_id o y) y)
 
   mapped_apart : (b : Bool) (z y : Object) → IsIn z m.objects → has_id o z ≡ b → y ≡ (if b then with_change ToHusk z else z) → is_doomed y.phase ≡ true → StoodApart m x y
   mapped_apart true z y k is gives d = absurd (let no : is_doomed y.phase ≡ false = ap (λ (v : Object). is_doomed v.phase) gives in cc)
@@ -173,10 +170,10 @@ module _ (m : State) (r : Reached m) (c : IsCelled m.pools m.objects) (o : ℕ) 
   pub husks : (m' : State) → m'.pools ≡ at_place m.pools (kind_place x.kind) (buried_at x.index) → m'.objects ≡ map (on_object o ToHusk) m.objects → Buries m m' x
   husks m' pools objects = record {
     pools = pools;
-    here = ap (λ v. holder_of v (kind_place x.kind) x.index) objects ∙ ap (option_map identity_of) (find-none (stands_at (kind_place x.kind) x.index) (map (on_object o ToHusk) m.objects) none_mapped);
-    other = λ n i apart. ap (λ v. holder_of v n i) objects
-        ∙ ap (option_map identity_of) (find-map (stands_at n i) (on_object o ToHusk) m.objects (λ y k. same_at n i apart y k (has_id o y) refl))
-        ∙ known_else n i (find (stands_at n i) m.objects) refl apart;
+    here = λ ls. ap (λ v. holder_of ls v (kind_place x.kind) x.index) objects ∙ ap (option_map (known_in ls)) (find-none (stands_at (kind_place x.kind) x.index) (map (on_object o ToHusk) m.objects) none_mapped);
+    other = λ ls n i apart. ap (λ v. holder_of ls v n i) objects
+        ∙ ap (option_map (known_in ls)) (find-map (stands_at n i) (on_object o ToHusk) m.objects (λ y k. same_at n i apart y k (has_id o y) refl))
+        ∙ known_else ls n i (find (stands_at n i) m.objects) refl apart;
     doomed = λ y k d. husks_apart y (let P : List Object → Type 0 = λ v. IsIn y v in subst P objects k) d;
   }
 
@@ -217,7 +214,7 @@ pool_brought {D} n i d machine (Some p) pool e all =
 
 module _ {D : Type 0} (tell : D → DeedFacts) (log log' : Logged) (k k' : Kept) (pools pools' : List (Homes D)) (held held' : List (Option D)) (t : IsTied tell log k pools held)
     (x : Object) (o : ℕ) (there : object_with (state_of log.history) o ≡ Some x) (doomed : is_doomed x.phase ≡ true)
-    (d : D) (out : Out) (for : IsFor out x) (deed : IsDeedBuried (tell d) out log.history) where
+    (d : D) (out : Out) (for : IsFor out x) (deed : IsDeedBuried (tell d) out (lives_out log.history (Some out))) where
   stands_x : Standing log.history x
   stands_x = standing_at log.history o x t.legal there (doomed_stands x.phase doomed)
 
@@ -236,7 +233,7 @@ module _ {D : Type 0} (tell : D → DeedFacts) (log log' : Logged) (k k' : Kept)
   out_of_pool pool is =
       let is_x : slice_get pools (kind_place x.kind) ≡ Some pool = ap (λ v. slice_get pools (kind_place v)) (sym kind_x) ∙ is in
       let was = t.pools_are (kind_place x.kind) pool is_x in
-      let parts = placed_parts k _ _ (kind_place x.kind) x.index (seat_of log.history (kind_place x.kind) x.index) (identity_of x) stands_x.holder (t.placed (kind_place x.kind) x.index (kind_within x.kind) stands_x.low) in
+      let parts = placed_parts k _ _ (kind_place x.kind) x.index (seat_of log.history (kind_place x.kind) x.index) (known_in (lives_in log.history (kind_place x.kind) x.index) x) stands_x.holder (t.placed (kind_place x.kind) x.index (kind_within x.kind) stands_x.low) in
       let none : option_map tell (deed_at pool x.index) ≡ None = ap (λ s. option_map tell (deed_in s x.index)) (sym is_x) ∙ parts.0 in
       let empty : deed_at pool x.index ≡ None = none_before (deed_at pool x.index) none in
       record {
@@ -266,7 +263,7 @@ module _ {D : Type 0} (tell : D → DeedFacts) (log log' : Logged) (k k' : Kept)
 
     seat_beside : (a b : ℕ) → (kind_place x.kind ≡ a → x.index ≡ b → ⊥) → seat_of log'.history a b ≡ seat_of log.history a b
     seat_beside a b apart =
-        seat_eq (state_of log.history) (state_of log'.history) log.history log'.history a b (cell_beside a b apart) (ap (λ (s : State). holder_of s.objects a b) now_x ∙ buries.other a b apart) (lives_x a b)
+        seat_eq (state_of log.history) (state_of log'.history) log.history log'.history a b (cell_beside a b apart) (ap (λ ls. holder_of ls (state_of log'.history).objects a b) (lives_x a b) ∙ ap (λ (s : State). holder_of (lives_in log.history a b) s.objects a b) now_x ∙ buries.other (lives_in log.history a b) a b apart) (lives_x a b)
 
     brings_x : pools' ≡ at_place pools (kind_place x.kind) (brought x.index d)
     brings_x = brings ∙ ap (λ v. at_place pools (kind_place v) (brought (tell d).index d)) kind_x ∙ ap (λ v. at_place pools (kind_place x.kind) (brought v d)) index_x
@@ -329,7 +326,7 @@ module _ {D : Type 0} (tell : D → DeedFacts) (log log' : Logged) (k k' : Kept)
               generation = after_it.0;
               lives = (
                   let Q : List Life → Type 0 = λ v. TellsLives (tell d).lives v in
-                  let there_lives : lives_in log.history (kind_place out.kind) out.index ≡ lives_in log'.history (kind_place x.kind) x.index =
+                  let there_lives : lives_in log.history (kind_place out.identity.kind) out.index ≡ lives_in log'.history (kind_place x.kind) x.index =
                   ap (λ v. lives_in log.history (kind_place v) out.index) (sym for.kind) ∙ ap (lives_in log.history (kind_place x.kind)) (sym for.index) ∙ sym (lives_x (kind_place x.kind) x.index) in
                   subst Q there_lives deed.lives);
             };
@@ -348,7 +345,7 @@ module _ {D : Type 0} (tell : D → DeedFacts) (log log' : Logged) (k k' : Kept)
         let b = x.index in
         let slot = held_there tell log k pools held t x stands_x.low in
         let gone : slot_of (slice_get held' (seat_place a b)) ≡ None = ap (λ v. slot_of (slice_get v (seat_place a b))) clears_x ∙ slot_here held (seat_place a b) None slot.item slot.is in
-        let free : (seat_of log'.history a b).holder ≡ None = ap (λ (s : State). holder_of s.objects a b) now_x ∙ buries.here in
+        let free : (seat_of log'.history a b).holder ≡ None = ap (λ (s : State). holder_of (lives_in log'.history a b) s.objects a b) now_x ∙ buries.here (lives_in log'.history a b) in
         let P : Option Identity → Type 0 = λ v. IsPlaced k' (option_map tell (deed_in (slice_get pools' a) b)) (option_map tell (slot_of (slice_get held' (seat_place a b)))) a b (seat_of log'.history a b) v in
         tied_by tell log log' k k' pools pools' held held' a b t
         (record {

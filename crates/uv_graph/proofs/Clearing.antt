@@ -1,11 +1,10 @@
 -- While a file without calls is torn down, and its teardown has no deed out, none of its objects is doomed.
-use Rattle.std.proofs.Common.{◌≡◌, ℕ, Bool, true, false, List, Option, Some, None, refl, ap, sym, ◌∙◌, ⊎_elim}
+use Rattle.std.proofs.Common.{◌≡◌, ℕ, true, List, Option, None, ap, sym, ◌∙◌, ⊎_elim}
 use Rattle.std.proofs.lemmas.Option.{none-some, same_Some}
 use Rattle.std.proofs.lemmas.Bool.{and_parts, eqb-true}
 use Rattle.uv_pool.specs.Homes.{Homes}
 use Rattle.uv_machine.specs.declared.file.FilePhase.TheVariants as file
 use Rattle.uv_machine.specs.declared.object.Object.{Object}
-use Rattle.uv_machine.specs.declared.state.State.{State}
 use Rattle.uv_machine.specs.Objects.{in_file, is_doomed, is_doomed_in}
 use Rattle.uv_machine.specs.States.{object_with, phase_of, is_quiet}
 use Rattle.uv_machine.specs.Histories.{state_of}
@@ -15,10 +14,10 @@ use Rattle.uv_machine.proofs.Calling.{quiet_none, false_unless}
 use Rattle.uv_machine.proofs.Members.{list_any-none}
 use Rattle.uv_machine.proofs.Reaching.{Reached-state_of}
 use Rattle.uv_pool.specs.Deeds.{DeedFacts}
+use Rattle.uv_machine.proofs.Filing.{same_by}
 use Rattle.uv_graph.specs.Kept.{Kept, kill_of}
 use Rattle.uv_machine.specs.Logged.{Logged}
 use Rattle.uv_graph.specs.Seats.{IsTied}
-use Rattle.uv_graph.proofs.Filing.{same_by}
 use Rattle.uv_graph.proofs.Holders.{object_is}
 
 module _ {D : Type 0} (tell : D → DeedFacts) (log : Logged) (k : Kept) (pools : List (Homes D)) (held : List (Option D)) (t : IsTied tell log k pools held)
@@ -31,7 +30,7 @@ module _ {D : Type 0} (tell : D → DeedFacts) (log : Logged) (k : Kept) (pools 
       ⊎_elim
       (λ e. (
       let h = t.outs w.actor w.out e in
-      let placed = (r.holds_well w.actor h.call h.is).placed w.out.object h.locked x i (sym w.object) in
+      let placed = (r.holds_well w.actor h.call h.is).placed w.out.identity.id h.locked x i (sym w.object) in
       quiet_none m w.actor f h.call quiet h.is (sym placed ∙ same)))
       (λ e. (
       let h = t.kills w.actor w.out e in

@@ -1,6 +1,6 @@
 -- The deed of each doomed object stays in an actor's hands.
-use Rattle.std.proofs.Common.{◌≡◌, ℕ, Bool, true, false, List, ◌∷◌, Option, Some, None, map, refl, ap, sym, ◌∙◌, subst, ⊎_elim}
-use Rattle.std.specs.Prelude.{◌==◌, filter, if◌then◌else◌}
+use Rattle.std.proofs.Common.{◌≡◌, ℕ, Bool, true, false, List, Option, Some, None, map, refl, ap, sym, ◌∙◌, subst, ⊎_elim}
+use Rattle.std.specs.Prelude.{filter, if◌then◌else◌}
 use Rattle.std.proofs.lemmas.Option.{none-some, same_Some}
 use Rattle.std.proofs.lemmas.Bool.{eqb-true}
 use Rattle.uv_num.specs.declared.errno.Errno.{Errno}
@@ -26,9 +26,9 @@ use Rattle.uv_machine.specs.declared.state.State.{State}
 use Rattle.uv_machine.specs.Objects.{has_id, is_doomed, is_husk, live_from, doomed_from, with_change, on_object}
 use Rattle.uv_machine.specs.Plans.{acted_on}
 use Rattle.uv_machine.specs.States.{call_of, object_with, home_cell}
-use Rattle.uv_machine.specs.Effects.{refusal_in, with_room_for, new_object, make_at, make, binding_of, act, act_by, commit, check, finish, left, not_with_id, not_in_file, gone_from, unless_answered, unless_refused, stepped, after_step}
+use Rattle.uv_machine.specs.Effects.{refusal_in, with_room_for, new_object, make_at, make, binding_of, act, act_by, commit, check, finish, not_with_id, not_in_file, gone_from, unless_answered, unless_refused, stepped, after_step}
 use Rattle.uv_machine.specs.Histories.{after}
-use Rattle.uv_machine.specs.Reached.{IsIn, Reached}
+use Rattle.uv_machine.specs.Reached.{Reached}
 use Rattle.uv_machine.proofs.Members.{IsIn-map, Passes-filter}
 use Rattle.uv_machine.proofs.Graph.{in_room}
 use Rattle.uv_machine.proofs.Holding.{finish_objects}

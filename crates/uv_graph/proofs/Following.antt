@@ -1,5 +1,5 @@
 -- The step that a call makes next, by what its word says: it is the one that the machine allows.
-use Rattle.std.proofs.Common.{◌≡◌, ℕ, ◌≤◌, Bool, true, false, Option, None, Some, refl, ap, sym, subst, ◌∙◌, if◌then◌else◌, arith}
+use Rattle.std.proofs.Common.{◌≡◌, ℕ, Bool, true, false, Option, None, Some, refl, ap, subst, ◌∙◌, if◌then◌else◌, arith}
 use Rattle.std.proofs.lemmas.Option.{none-some, same_Some}
 use Rattle.uv_num.specs.declared.errno.Errno.{Errno}
 use Rattle.uv_num.specs.declared.qp.QpState.{QpState}
@@ -13,19 +13,18 @@ use Rattle.uv_machine.specs.declared.entry.Word.TheVariants.{Reserve, Look, Make
 use Rattle.uv_machine.specs.declared.entry.Answer.{Answer}
 use Rattle.uv_machine.specs.declared.entry.Answer.TheVariants as answer
 use Rattle.uv_machine.specs.declared.entry.CallStep.{CallStep}
-use Rattle.uv_machine.specs.declared.entry.Entry.TheVariants.{Step}
 use Rattle.uv_machine.specs.declared.object.Object.{Object}
 use Rattle.uv_machine.specs.declared.call.InFlight.{InFlight}
 use Rattle.uv_machine.specs.declared.state.State.{State}
 use Rattle.uv_machine.specs.declared.told.Told.{Told}
 use Rattle.uv_machine.specs.Objects.{is_husk}
 use Rattle.uv_machine.specs.States.{call_of, object_with}
-use Rattle.uv_machine.specs.Plans.{next_word, own_object, acted_on, call_answer}
+use Rattle.uv_machine.specs.Plans.{next_word, own_object, acted_on}
 use Rattle.uv_machine.specs.Acts.{act_refusal, act_answer, found_by}
-use Rattle.uv_machine.specs.Steps.{next_of, next_from, step_of, done_as, fine_answer, step_answer, role_answer, act_told, role_found, found_at, kept_of, told}
-use Rattle.uv_machine.specs.Effects.{refusal_in}
-use Rattle.uv_machine.specs.Histories.{kept_in, Allowed, IsActor, IsNext, state_of}
-use Rattle.uv_graph.specs.Turns.{IsClient, step_entry}
+use Rattle.uv_machine.specs.Steps.{next_of, next_from, step_of, done_as, step_answer, role_answer, act_told, role_found, found_at, kept_of, told}
+use Rattle.uv_machine.specs.Histories.{kept_in, Allowed, IsActor, IsNext}
+use Rattle.uv_graph.specs.Conditions.{IsClient}
+use Rattle.uv_graph.specs.Turns.{step_entry}
 
 -- A step tells what it found and what it kept, so that it is the same step again where these are given.
 

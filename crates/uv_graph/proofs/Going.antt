@@ -53,7 +53,9 @@ use Rattle.uv_graph.proofs.Finding.{find-map, find-kept, find-more}
 pub record GoesAs (objects : List Object) (o : ℕ) (x : Object) : Type 0 where
   pub item : Object
   pub there : find (has_id o) objects ≡ Some item
+  pub id : item.id ≡ x.id
   pub kind : item.kind ≡ x.kind
+  pub request : item.request ≡ x.request
   pub file : item.file ≡ x.file
   pub index : item.index ≡ x.index
   pub generation : item.generation ≡ x.generation
@@ -61,7 +63,7 @@ pub record GoesAs (objects : List Object) (o : ℕ) (x : Object) : Type 0 where
 
 module _ (objects : List Object) (o : ℕ) (x : Object) (is : find (has_id o) objects ≡ Some x) where
   goes_same : GoesAs objects o x
-  goes_same = record { item = x; there = is; kind = refl; file = refl; index = refl; generation = refl; phase = refl }
+  goes_same = record { item = x; there = is; id = refl; kind = refl; request = refl; file = refl; index = refl; generation = refl; phase = refl }
 
   has_it : x.id ≡ o
   has_it = eqb-true x.id o (Passes-find (has_id o) x objects is).test
@@ -80,7 +82,9 @@ module _ (objects : List Object) (o : ℕ) (x : Object) (is : find (has_id o) ob
       record {
         item = x;
         there = mapped i change ∙ ap (λ (v : Object). Some v) same;
+        id = refl;
         kind = refl;
+        request = refl;
         file = refl;
         index = refl;
         generation = refl;
@@ -88,8 +92,8 @@ module _ (objects : List Object) (o : ℕ) (x : Object) (is : find (has_id o) ob
       }
 
   bound_by : (b : Bool) (i : ℕ) (binding : _) → find (has_id o) (map (on_object i (ToBound binding)) objects) ≡ Some (if b then with_change (ToBound binding) x else x) → GoesAs (map (on_object i (ToBound binding)) objects) o x
-  bound_by true i binding e = record { item = with_change (ToBound binding) x; there = e; kind = refl; file = refl; index = refl; generation = refl; phase = refl }
-  bound_by false i binding e = record { item = x; there = e; kind = refl; file = refl; index = refl; generation = refl; phase = refl }
+  bound_by true i binding e = record { item = with_change (ToBound binding) x; there = e; id = refl; kind = refl; request = refl; file = refl; index = refl; generation = refl; phase = refl }
+  bound_by false i binding e = record { item = x; there = e; id = refl; kind = refl; request = refl; file = refl; index = refl; generation = refl; phase = refl }
 
   -- a bind of any
   goes_bound : (i : ℕ) (binding : _) → GoesAs (map (on_object i (ToBound binding)) objects) o x
@@ -97,14 +101,14 @@ module _ (objects : List Object) (o : ℕ) (x : Object) (is : find (has_id o) ob
 
   -- a part that keeps it
   goes_filter : (q : Object → Bool) → q x ≡ true → GoesAs (filter q objects) o x
-  goes_filter q t = record { item = x; there = find-kept (has_id o) q x objects t is; kind = refl; file = refl; index = refl; generation = refl; phase = refl }
+  goes_filter q t = record { item = x; there = find-kept (has_id o) q x objects t is; id = refl; kind = refl; request = refl; file = refl; index = refl; generation = refl; phase = refl }
 
   room_by : (b : Bool) (z : Object) → find (has_id o) (if b then objects ++ z ∷ [] else objects) ≡ Some x
   room_by true z = find-more (has_id o) x z objects is
   room_by false z = is
 
   goes_room : (z : Object) → GoesAs (with_room_for z objects) o x
-  goes_room z = record { item = x; there = room_by (nat_lt (length objects) MOST_OBJECTS) z; kind = refl; file = refl; index = refl; generation = refl; phase = refl }
+  goes_room z = record { item = x; there = room_by (nat_lt (length objects) MOST_OBJECTS) z; id = refl; kind = refl; request = refl; file = refl; index = refl; generation = refl; phase = refl }
 
 goes_as : (m' n : State) (o : ℕ) (x : Object) → m' ≡ n → GoesAs n.objects o x → GoesAs m'.objects o x
 goes_as m' n o x e g = let P : State → Type 0 = λ s. GoesAs s.objects o x in subst P (sym e) g
@@ -161,7 +165,7 @@ phase_as : (x y : Object) → y.phase ≡ x.phase → (is_made x.phase ≡ true)
 phase_as x y e (inl h) = inl (ap is_made e ∙ h)
 phase_as x y e (inr h) = inr (ap is_doomed e ∙ h)
 
-out_as : (m m' : State) (c : ℕ) (out : Out) (h : HasOut m c out) → call_of m' c ≡ call_of m c → GoesAs m'.objects out.object h.item → HasOut m' c out
+out_as : (m m' : State) (c : ℕ) (out : Out) (h : HasOut m c out) → call_of m' c ≡ call_of m c → GoesAs m'.objects out.identity.id h.item → HasOut m' c out
 out_as m m' c out h calls g =
     record {
       call = h.call;
@@ -170,33 +174,33 @@ out_as m m' c out h calls g =
       word = h.word;
       item = g.item;
       there = g.there;
-      same = record { kind = g.kind ∙ h.same.kind; index = g.index ∙ h.same.index; generation = g.generation ∙ h.same.generation };
+      same = record { id = g.id ∙ h.same.id; kind = g.kind ∙ h.same.kind; request = g.request ∙ h.same.request; index = g.index ∙ h.same.index; generation = g.generation ∙ h.same.generation };
       phase = phase_as h.item g.item g.phase h.phase;
     }
 
 -- a call's own object is in the call's file
 own_file : (m : State) (r : Reached m) (c : ℕ) (out : Out) (h : HasOut m c out) → h.item.file ≡ h.call.file
 own_file m r c out h =
-    let p = Passes-find (has_id out.object) h.item m.objects h.there in
-    (r.holds_well c h.call h.is).placed out.object h.locked h.item p.within (eqb-true h.item.id out.object p.test)
+    let p = Passes-find (has_id out.identity.id) h.item m.objects h.there in
+    (r.holds_well c h.call h.is).placed out.identity.id h.locked h.item p.within (eqb-true h.item.id out.identity.id p.test)
 
 -- what is swept is no call's own
-swept_apart : (m : State) (r : Reached m) (c : ℕ) (out : Out) (h : HasOut m c out) (i : ℕ) → IsSweptObject m i → i ≢ out.object
+swept_apart : (m : State) (r : Reached m) (c : ℕ) (out : Out) (h : HasOut m c out) (i : ℕ) → IsSweptObject m i → i ≢ out.identity.id
 swept_apart m r c out h i s e =
-    let file = (r.holds_well c h.call h.is).placed out.object h.locked s.item s.within (s.id ∙ e) in
+    let file = (r.holds_well c h.call h.is).placed out.identity.id h.locked s.item s.within (s.id ∙ e) in
     quiet_none m c s.item.file h.call (and_parts (is_tearing (phase_of m s.item.file)) (is_quiet m s.item.file) s.swept).1 h.is (sym file)
 
-other_call : (m : State) (r : Reached m) (b c : ℕ) (k : InFlight) (out : Out) (h : HasOut m c out) → b ≢ c → call_of m b ≡ Some k → k.locked ≡ Some out.object → ⊥
+other_call : (m : State) (r : Reached m) (b c : ℕ) (k : InFlight) (out : Out) (h : HasOut m c out) → b ≢ c → call_of m b ≡ Some k → k.locked ≡ Some out.identity.id → ⊥
 other_call m r b c k out h ne is locked =
-    let none = r.alone c b h.call k out.object h.is is (λ e. ne (sym e)) h.locked in
-    let some : holds out.object (Some k) ≡ true = or_left _ (looks_at out.object k) (locks_it out.object k.locked locked) in
+    let none = r.alone c b h.call k out.identity.id h.is is (λ e. ne (sym e)) h.locked in
+    let some : holds out.identity.id (Some k) ≡ true = or_left _ (looks_at out.identity.id k) (locks_it out.identity.id k.locked locked) in
     cc
 
 out_gone : (m : State) (c : ℕ) (out : Out) (h : HasOut m c out) → Reached m → (i : ℕ) (slot : Option Object) → object_with m i ≡ slot → may_go_object m slot ≡ true → HasOut (gone_from m i slot) c out
 out_gone m c out h r i None e may = absurd cc
 out_gone m c out h r i (Some x) e may =
     out_as m (gone_from m i (Some x)) c out h refl
-    (goes_other m.objects out.object h.item h.there i ToHusk (swept_apart m r c out h i (gone_by m i x e may)))
+    (goes_other m.objects out.identity.id h.item h.there i ToHusk (swept_apart m r c out h i (gone_by m i x e may)))
 
 not_same : (a b : ℕ) → (a == b) ≡ false → a ≢ b
 not_same a b e h = let yes = eq-eqb a b h in absurd cc
@@ -204,48 +208,48 @@ not_same a b e h = let yes = eq-eqb a b h in absurd cc
 -- an entry of another leaves the deed of a call what it is out for
 pub HasOut-after : (m : State) (e : Entry) (c : ℕ) (out : Out) → Reached m → Allowed m e → is_of c e ≡ false → HasOut m c out → HasOut (after m e) c out
 HasOut-after m (Open b f d a) c out r allowed apart h =
-    out_as m _ c out h (call_of-after m (Open b f d a) c apart) (goes_unless m _ (refusal_in a) out.object h.item (goes_same m.objects out.object h.item h.there) (goes_same m.objects out.object h.item h.there))
+    out_as m _ c out h (call_of-after m (Open b f d a) c apart) (goes_unless m _ (refusal_in a) out.identity.id h.item (goes_same m.objects out.identity.id h.item h.there) (goes_same m.objects out.identity.id h.item h.there))
 HasOut-after m (Enter b f request a) c out r allowed apart h =
-    out_as m _ c out h (call_of-after m (Enter b f request a) c apart) (goes_unless m _ (refusal_in a) out.object h.item (goes_same m.objects out.object h.item h.there) (goes_same m.objects out.object h.item h.there))
+    out_as m _ c out h (call_of-after m (Enter b f request a) c apart) (goes_unless m _ (refusal_in a) out.identity.id h.item (goes_same m.objects out.identity.id h.item h.there) (goes_same m.objects out.identity.id h.item h.there))
 HasOut-after m (Step b w o found a) c out r allowed apart h =
     let t = IsTurn-allowed m b w o found a allowed in
     let ne = not_same b c apart in
     out_as m _ c out h (call_of-after m (Step b w o found a) c apart)
-    (goes_turn m r b t.call t.is out.object h.item h.there a (after m (Step b w o found a)) t.turn (other_call m r b c t.call out h ne t.is))
-HasOut-after m (Unplug d) c out r allowed apart h = out_as m (after m (Unplug d)) c out h refl (goes_same m.objects out.object h.item h.there)
-HasOut-after m (Tear f by) c out r allowed apart h = out_as m (after m (Tear f by)) c out h refl (goes_same m.objects out.object h.item h.there)
+    (goes_turn m r b t.call t.is out.identity.id h.item h.there a (after m (Step b w o found a)) t.turn (other_call m r b c t.call out h ne t.is))
+HasOut-after m (Unplug d) c out r allowed apart h = out_as m (after m (Unplug d)) c out h refl (goes_same m.objects out.identity.id h.item h.there)
+HasOut-after m (Tear f by) c out r allowed apart h = out_as m (after m (Tear f by)) c out h refl (goes_same m.objects out.identity.id h.item h.there)
 HasOut-after m (Kill i) c out r allowed apart h =
-    out_as m (after m (Kill i)) c out h refl (goes_other m.objects out.object h.item h.there i ToDoomed (swept_apart m r c out h i (killed_swept m i allowed)))
+    out_as m (after m (Kill i)) c out h refl (goes_other m.objects out.identity.id h.item h.there i ToDoomed (swept_apart m r c out h i (killed_swept m i allowed)))
 HasOut-after m (Gone i kept) c out r allowed apart h = out_gone m c out h r i (object_with m i) refl allowed
-HasOut-after m (Dissociated f) c out r allowed apart h = out_as m (after m (Dissociated f)) c out h refl (goes_same m.objects out.object h.item h.there)
+HasOut-after m (Dissociated f) c out r allowed apart h = out_as m (after m (Dissociated f)) c out h refl (goes_same m.objects out.identity.id h.item h.there)
 HasOut-after m (Closed f) c out r allowed apart h =
     let parts = and_parts (is_closing (phase_of m f)) (is_quiet m f && not (has_standing m f)) allowed.1 in
     let quiet = (and_parts (is_quiet m f) (not (has_standing m f)) parts.1).0 in
     let ne : h.item.file ≢ f = λ e. quiet_none m c f h.call quiet h.is (sym (own_file m r c out h) ∙ e) in
-    out_as m (after m (Closed f)) c out h refl (goes_filter m.objects out.object h.item h.there (not_in_file f) (ap not (ne_eqb h.item.file f ne)))
+    out_as m (after m (Closed f)) c out h refl (goes_filter m.objects out.identity.id h.item h.there (not_in_file f) (ap not (ne_eqb h.item.file f ne)))
 
 -- The deed of a teardown.
 
-kill_as : (m m' : State) (b : ℕ) (out : Out) (h : HasKill m b out) → phase_of m' h.item.file ≡ phase_of m h.item.file → is_quiet m' h.item.file ≡ true → GoesAs m'.objects out.object h.item → HasKill m' b out
+kill_as : (m m' : State) (b : ℕ) (out : Out) (h : HasKill m b out) → phase_of m' h.item.file ≡ phase_of m h.item.file → is_quiet m' h.item.file ≡ true → GoesAs m'.objects out.identity.id h.item → HasKill m' b out
 kill_as m m' b out h phase quiet g =
     record {
       item = g.item;
       there = g.there;
-      same = record { kind = g.kind ∙ h.same.kind; index = g.index ∙ h.same.index; generation = g.generation ∙ h.same.generation };
+      same = record { id = g.id ∙ h.same.id; kind = g.kind ∙ h.same.kind; request = g.request ∙ h.same.request; index = g.index ∙ h.same.index; generation = g.generation ∙ h.same.generation };
       phase = ap is_doomed g.phase ∙ h.phase;
       torn = ap (phase_of m') g.file ∙ phase ∙ h.torn;
       quiet = ap (is_quiet m') g.file ∙ quiet;
     }
 
 module _ (m : State) (r : Reached m) (b : ℕ) (out : Out) (h : HasKill m b out) where
-  kill_same : GoesAs m.objects out.object h.item
-  kill_same = goes_same m.objects out.object h.item h.there
+  kill_same : GoesAs m.objects out.identity.id h.item
+  kill_same = goes_same m.objects out.identity.id h.item h.there
 
   kill_in : IsIn h.item m.objects
-  kill_in = (Passes-find (has_id out.object) h.item m.objects h.there).within
+  kill_in = (Passes-find (has_id out.identity.id) h.item m.objects h.there).within
 
-  kill_id : h.item.id ≡ out.object
-  kill_id = has_it m.objects out.object h.item h.there
+  kill_id : h.item.id ≡ out.identity.id
+  kill_id = has_it m.objects out.identity.id h.item h.there
 
   torn_apart : (f : ℕ) (p : FilePhase → Bool) → p (file.Tearing b) ≡ false → p (phase_of m f) ≡ true → f ≢ h.item.file
   torn_apart f p fails holds e =
@@ -253,9 +257,9 @@ module _ (m : State) (r : Reached m) (b : ℕ) (out : Out) (h : HasKill m b out)
       cc
 
   -- a call is on another file
-  call_apart : (c : ℕ) (call : InFlight) → call_of m c ≡ Some call → call.locked ≡ Some out.object → ⊥
+  call_apart : (c : ℕ) (call : InFlight) → call_of m c ≡ Some call → call.locked ≡ Some out.identity.id → ⊥
   call_apart c call is locked =
-      let file = (r.holds_well c call is).placed out.object locked h.item kill_in kill_id in
+      let file = (r.holds_well c call is).placed out.identity.id locked h.item kill_in kill_id in
       quiet_none m c h.item.file call h.quiet is (sym file)
 
   kill_unless : (m' : State) (e : Option Errno) → (e ≡ None → HasKill m' b out) → HasKill (unless_answered m e m') b out
@@ -300,9 +304,9 @@ module _ (m : State) (r : Reached m) (b : ℕ) (out : Out) (h : HasKill m b out)
   not_torn false gone file.Dissociated e = refl
   not_torn false gone file.Closed e = refl
 
-  kill_gone : (i : ℕ) (slot : Option Object) → i ≢ out.object → HasKill (gone_from m i slot) b out
+  kill_gone : (i : ℕ) (slot : Option Object) → i ≢ out.identity.id → HasKill (gone_from m i slot) b out
   kill_gone i None ne = h
-  kill_gone i (Some x) ne = kill_as m (gone_from m i (Some x)) b out h refl h.quiet (goes_other m.objects out.object h.item h.there i ToHusk ne)
+  kill_gone i (Some x) ne = kill_as m (gone_from m i (Some x)) b out h refl h.quiet (goes_other m.objects out.identity.id h.item h.there i ToHusk ne)
 
 no_kill_object : (m : State) (o : ℕ) (x : Object) → object_with m o ≡ Some x → may_kill_object m o (Some x) ≡ true → has_doomed m x.file ≡ false
 no_kill_object m o x e may =
@@ -330,18 +334,18 @@ opened_kill : (m : State) (b : ℕ) (out : Out) (c f d : ℕ) (a : Answer) (e : 
 opened_kill m b out c f d a None is r h fresh = kill_opened m r b out h c f d (fresh refl)
 opened_kill m b out c f d a (Some e) is r h fresh = h
 
-killed_kill : (m : State) (b : ℕ) (out : Out) (i : ℕ) (slot : Option Object) → Reached m → HasKill m b out → object_with m i ≡ slot → may_kill_object m i slot ≡ true → i ≢ out.object
+killed_kill : (m : State) (b : ℕ) (out : Out) (i : ℕ) (slot : Option Object) → Reached m → HasKill m b out → object_with m i ≡ slot → may_kill_object m i slot ≡ true → i ≢ out.identity.id
 killed_kill m b out i None r h e may same = absurd cc
 killed_kill m b out i (Some x) r h e may same =
     let one : x ≡ h.item = same_Some x h.item (sym e ∙ ap (object_with m) same ∙ h.there) in
-    let p = Passes-find (has_id out.object) h.item m.objects h.there in
+    let p = Passes-find (has_id out.identity.id) h.item m.objects h.there in
     let none : has_doomed m h.item.file ≡ false = ap (λ (v : Object). has_doomed m v.file) (sym one) ∙ no_kill_object m i x e may in
     let test : is_doomed_in h.item.file h.item ≡ false = fails_any (is_doomed_in h.item.file) h.item m.objects none p.within in
     let some : is_doomed_in h.item.file h.item ≡ true = both_true (eq-eqb h.item.file h.item.file refl) h.phase in
     cc
 
 -- an entry leaves the deed of a teardown what it is out for, but for the release of its object
-pub HasKill-after : (m : State) (e : Entry) (b : ℕ) (out : Out) → Reached m → Allowed m e → releases_it out.object e ≡ false → HasKill m b out → HasKill (after m e) b out
+pub HasKill-after : (m : State) (e : Entry) (b : ℕ) (out : Out) → Reached m → Allowed m e → releases_it out.identity.id e ≡ false → HasKill m b out → HasKill (after m e) b out
 HasKill-after m (Open c f d a) b out r allowed apart h =
     opened_kill m b out c f d a (refusal_in a) refl r h (λ e. was_fresh (is_fresh (phase_of m f)) _ a allowed.3 e)
 HasKill-after m (Enter c f request a) b out r allowed apart h =
@@ -351,15 +355,15 @@ HasKill-after m (Step c w o found a) b out r allowed apart h =
     let m' = after m (Step c w o found a) in
     kill_as m m' b out h (phase_of-apart m (Step c w o found a) h.item.file refl)
     (quiet_turn m m' c t.call h.item.file t.is (calls_turn m c t.call a m' t.turn) h.quiet)
-    (goes_turn m r c t.call t.is out.object h.item h.there a m' t.turn (call_apart m r b out h c t.call t.is))
+    (goes_turn m r c t.call t.is out.identity.id h.item h.there a m' t.turn (call_apart m r b out h c t.call t.is))
 HasKill-after m (Unplug d) b out r allowed apart h = kill_as m (after m (Unplug d)) b out h refl h.quiet (kill_same m r b out h)
 HasKill-after m (Tear f by) b out r allowed apart h =
     let free = not_torn m r b out h (by == DRIVER) (is_unplugged m (device_of m f)) (phase_of m f) allowed.2 in
     let ne : f ≢ h.item.file = λ e. (let torn : is_tearing (phase_of m f) ≡ true = ap (λ k. is_tearing (phase_of m k)) e ∙ ap is_tearing h.torn in cc) in
     kill_as m (after m (Tear f by)) b out h (phase_of-apart m (Tear f by) h.item.file (ne_eqb f h.item.file ne)) h.quiet (kill_same m r b out h)
 HasKill-after m (Kill i) b out r allowed apart h =
-    kill_as m (after m (Kill i)) b out h refl h.quiet (goes_other m.objects out.object h.item h.there i ToDoomed (killed_kill m b out i (object_with m i) r h refl allowed))
-HasKill-after m (Gone i kept) b out r allowed apart h = kill_gone m r b out h i (object_with m i) (not_same i out.object apart)
+    kill_as m (after m (Kill i)) b out h refl h.quiet (goes_other m.objects out.identity.id h.item h.there i ToDoomed (killed_kill m b out i (object_with m i) r h refl allowed))
+HasKill-after m (Gone i kept) b out r allowed apart h = kill_gone m r b out h i (object_with m i) (not_same i out.identity.id apart)
 HasKill-after m (Dissociated f) b out r allowed apart h =
     let parts = and_parts (is_removing (phase_of m f)) (is_quiet m f && not (has_standing m f)) allowed.1 in
     let none = (and_parts (is_quiet m f) (not (has_standing m f)) parts.1).1 in
@@ -370,4 +374,4 @@ HasKill-after m (Closed f) b out r allowed apart h =
     let none = (and_parts (is_quiet m f) (not (has_standing m f)) parts.1).1 in
     let ne = cleared_apart m r b out h f none in
     kill_as m (after m (Closed f)) b out h (phase_of-apart m (Closed f) h.item.file (ne_eqb f h.item.file ne)) h.quiet
-    (goes_filter m.objects out.object h.item h.there (not_in_file f) (ap not (ne_eqb h.item.file f (λ e. ne (sym e)))))
+    (goes_filter m.objects out.identity.id h.item h.there (not_in_file f) (ap not (ne_eqb h.item.file f (λ e. ne (sym e)))))

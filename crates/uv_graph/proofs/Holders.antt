@@ -1,5 +1,5 @@
 -- Who holds a cell.
-use Rattle.std.proofs.Common.{◌≡◌, ◌≢◌, ℕ, ◌+◌, ◌*◌, ◌<◌, Bool, true, false, Option, Some, None, length, refl, ap, sym, ◌∙◌, arith, inl, inr, ◌⊎◌}
+use Rattle.std.proofs.Common.{◌≡◌, ◌≢◌, ℕ, ◌+◌, ◌*◌, ◌<◌, Bool, true, false, List, Option, Some, None, length, refl, ap, sym, ◌∙◌, arith, inl, inr, ◌⊎◌}
 use Rattle.std.specs.Prelude.{not, ◌==◌, find, option_map, slice_get}
 use Rattle.std.specs.Cmp.Derive.{both_true}
 use Rattle.std.proofs.lemmas.Option.{none-some, same_Some, slice_get_within}
@@ -9,6 +9,7 @@ use Rattle.uv_num.specs.declared.kind.Kind.{Kind}
 use Rattle.uv_num.specs.declared.kind.Kind.TheVariants.{Pd, Channel, Cq, Qp, Srq, Ah, Mr, Mw}
 use Rattle.uv_num.specs.declared.limits.TheConstants.{CELLS, KINDS}
 use Rattle.uv_num.specs.Kind.{kind_place}
+use Rattle.uv_pool.specs.declared.deed.Life.{Life}
 use Rattle.uv_machine.specs.declared.object.Object.{Object}
 use Rattle.uv_machine.specs.declared.object.Phase.{Phase}
 use Rattle.uv_machine.specs.declared.object.Phase.TheVariants as phase
@@ -21,7 +22,8 @@ use Rattle.uv_machine.specs.Reached.{IsIn, IsCelled, Reached, cell_in}
 use Rattle.uv_machine.proofs.Members.{Passes-find, fails_find}
 use Rattle.uv_machine.proofs.Graph.{find_rising}
 use Rattle.uv_machine.proofs.Suiting.{is_kind-same}
-use Rattle.uv_graph.specs.Lives.{identity_of, is_at}
+use Rattle.uv_machine.specs.Made.{is_at}
+use Rattle.uv_graph.specs.Lives.{known_in}
 use Rattle.uv_graph.specs.Seats.{stands_at, holder_of}
 
 pub kind_same : (a b : Kind) → kind_place a ≡ kind_place b → a ≡ b
@@ -83,8 +85,8 @@ module _ (m : State) (r : Reached m) (c : IsCelled m.pools m.objects) (x : Objec
   holder_found = holder_by (find (stands_at (kind_place x.kind) x.index) m.objects) refl
 
   -- an object holds its cell
-  pub holder_is : holder_of m.objects (kind_place x.kind) x.index ≡ Some (identity_of x)
-  holder_is = ap (option_map identity_of) holder_found
+  pub holder_is : (ls : List Life) → holder_of ls m.objects (kind_place x.kind) x.index ≡ Some (known_in ls x)
+  holder_is ls = ap (option_map (known_in ls)) holder_found
 
 in_pool : (s : Option Pool) (i : ℕ) (cell : Cell) → ((p : Pool) → s ≡ Some p → length p.cells ≡ CELLS) → cell_in s i ≡ Some cell → i < CELLS
 in_pool None i cell size e = absurd (none-some cell e)
@@ -95,21 +97,21 @@ pub cell_within : (m : State) (c : IsCelled m.pools m.objects) (n i : ℕ) (cell
 cell_within m c n i cell e = in_pool (slice_get m.pools n) i cell (λ p is. c.cells n p is) e
 
 -- who holds a cell stands in it
-pub record Holds (m : State) (n i : ℕ) (holder : Identity) : Type 0 where
+pub record Holds (m : State) (ls : List Life) (n i : ℕ) (holder : Identity) : Type 0 where
   pub item : Object
   pub found : find (stands_at n i) m.objects ≡ Some item
   pub within : IsIn item m.objects
   pub stands : StandsAt n i item
-  pub same : identity_of item ≡ holder
+  pub same : known_in ls item ≡ holder
 
-holds_by : (m : State) (n i : ℕ) (holder : Identity) (slot : Option Object) → find (stands_at n i) m.objects ≡ slot → option_map identity_of slot ≡ Some holder → Holds m n i holder
-holds_by m n i holder None e h = absurd (none-some holder h)
-holds_by m n i holder (Some x) e h =
+holds_by : (m : State) (ls : List Life) (n i : ℕ) (holder : Identity) (slot : Option Object) → find (stands_at n i) m.objects ≡ slot → option_map (known_in ls) slot ≡ Some holder → Holds m ls n i holder
+holds_by m ls n i holder None e h = absurd (none-some holder h)
+holds_by m ls n i holder (Some x) e h =
     let p = Passes-find (stands_at n i) x m.objects e in
-    record { item = x; found = e; within = p.within; stands = stands_parts n i x p.test; same = same_Some (identity_of x) holder h }
+    record { item = x; found = e; within = p.within; stands = stands_parts n i x p.test; same = same_Some (known_in ls x) holder h }
 
-pub holds_it : (m : State) (n i : ℕ) (holder : Identity) → holder_of m.objects n i ≡ Some holder → Holds m n i holder
-holds_it m n i holder e = holds_by m n i holder (find (stands_at n i) m.objects) refl e
+pub holds_it : (m : State) (ls : List Life) (n i : ℕ) (holder : Identity) → holder_of ls m.objects n i ≡ Some holder → Holds m ls n i holder
+holds_it m ls n i holder e = holds_by m ls n i holder (find (stands_at n i) m.objects) refl e
 
 -- places over all kinds
 pub place_apart : (n i k j : ℕ) → i < CELLS → j < CELLS → (k ≡ n → j ≡ i → ⊥) → k * CELLS + j ≢ n * CELLS + i

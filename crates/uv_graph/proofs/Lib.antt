@@ -1,15 +1,15 @@
+pub mod Asked
 pub mod Beginning
 pub mod Burying
 pub mod Clearing
-pub mod Domains
 pub mod Dooming
-pub mod Filing
 pub mod Finding
 pub mod Finishing
 pub mod Following
 pub mod Going
 pub mod Handing
 pub mod Holders
+pub mod Knowing
 pub mod MachineLaws
 pub mod Making
 pub mod OwnApart
@@ -19,4 +19,6 @@ pub mod Seating
 pub mod Spending
 pub mod Stepped
 pub mod Taking
+pub mod Tearing
 pub mod Tying
+pub mod Whole

@@ -1,6 +1,6 @@
 -- A make: the deed of the new object's cell goes out.
-use Rattle.std.proofs.Common.{◌≡◌, ◌≢◌, ℕ, zero, suc, ◌+◌, ◌*◌, ◌%◌, ◌≤◌, ◌<◌, Bool, true, false, List, [], ◌∷◌, ◌++◌, Option, Some, None, IsSome, length, map, get_or, refl, ap, sym, ◌∙◌, subst, arith, inl, inr, ◌⊎◌, ⊎_elim}
-use Rattle.std.specs.Prelude.{not, ◌&&◌, ◌==◌, sum, slice_get, find, option_map, position, take, drop, if◌then◌else◌}
+use Rattle.std.proofs.Common.{◌≡◌, ◌≢◌, ℕ, suc, ◌+◌, ◌≤◌, ◌<◌, Bool, true, false, List, [], ◌∷◌, ◌++◌, Option, Some, None, length, map, get_or, refl, ap, sym, ◌∙◌, subst, arith, inl, inr, ⊎_elim}
+use Rattle.std.specs.Prelude.{not, ◌==◌, sum, slice_get, find, option_map, position, take, drop, if◌then◌else◌}
 use Rattle.std.specs.Option.{option_or}
 use Rattle.std.specs.Cmp.Derive.{both_true}
 use Rattle.std.proofs.lemmas.List.{length-set}
@@ -10,12 +10,9 @@ use Rattle.std.proofs.lemmas.Bool.Decides.{eqb_tells}
 use Rattle.uv_num.specs.declared.identity.Identity.{Identity}
 use Rattle.uv_num.specs.declared.errno.Errno.{Errno}
 use Rattle.uv_num.specs.declared.errno.Errno.TheVariants.{NoSpc}
-use Rattle.uv_num.specs.declared.kind.Kind.{Kind}
-use Rattle.uv_num.specs.declared.limits.TheConstants.{CELLS, KINDS, NONE}
+use Rattle.uv_num.specs.declared.limits.TheConstants.{CELLS, NONE}
 use Rattle.uv_num.specs.declared.request.Role.{Role}
-use Rattle.uv_num.specs.declared.request.Role.TheVariants.{Creates}
 use Rattle.uv_num.specs.Kind.{kind_place}
-use Rattle.uv_num.specs.Request.{role_of}
 use Rattle.uv_num.specs.Place.{at_place}
 use Rattle.uv_num.proofs.PlaceLaws.{length-at_place, slice_get-at_place_same, slice_get-at_place_other}
 use Rattle.uv_pool.specs.declared.deed.Life.{Life}
@@ -25,7 +22,6 @@ use Rattle.uv_pool.proofs.Choosing.{home_place_by}
 use Rattle.uv_pool.proofs.Places.{deed_at-drawn_same, deed_at-drawn_other}
 use Rattle.uv_machine.specs.declared.entry.Entry.{Entry}
 use Rattle.uv_machine.specs.declared.entry.Entry.TheVariants.{Step}
-use Rattle.uv_machine.specs.declared.entry.Word.{Word}
 use Rattle.uv_machine.specs.declared.entry.Word.TheVariants.{Make, Commit}
 use Rattle.uv_machine.specs.declared.entry.Answer.TheVariants as answer
 use Rattle.uv_machine.specs.declared.object.Object.{Object}
@@ -38,33 +34,35 @@ use Rattle.uv_machine.specs.Cells.{is_home, first_of_two, home_index, sent_out, 
 use Rattle.uv_machine.specs.Plans.{plan_of, next_word, with_made}
 use Rattle.uv_machine.specs.States.{call_of, object_with, home_cell, home_of_kind}
 use Rattle.uv_machine.specs.Steps.{told, refused_told, cell_told, make_told, step_answer}
-use Rattle.uv_machine.specs.Effects.{with_room_for, with_new, made_outcome, make, make_at, generation_in, after_step}
+use Rattle.uv_machine.specs.Effects.{with_new, made_outcome, make, make_at, generation_in, after_step}
 use Rattle.uv_machine.specs.Histories.{kept_in, Allowed, after, state_of, IsLegal}
 use Rattle.uv_machine.specs.Reached.{IsIn, Reached, IsCelled, cell_in}
-use Rattle.uv_machine.proofs.Members.{Passes-find, IsIn-append-cases}
+use Rattle.uv_machine.proofs.Members.{IsIn-append-cases}
 use Rattle.uv_machine.proofs.Celled.{IsHomeAt, home_is}
 use Rattle.uv_machine.proofs.CelledTurns.{legal_celled}
 use Rattle.uv_machine.proofs.Graph.{within_rising}
 use Rattle.uv_machine.proofs.Numbers.{Numbered, legal_numbered, room_is, room_at}
 use Rattle.uv_machine.proofs.OwnCall.{call_of-changed}
 use Rattle.uv_machine.proofs.Phased.{looks_in}
-use Rattle.uv_machine.proofs.Planned.{InPlan, in_plan, stands_in_plan, next_place-in_plan, next_word-planned}
+use Rattle.uv_machine.proofs.Planned.{in_plan, stands_in_plan, next_place-in_plan, next_word-planned}
 use Rattle.uv_machine.proofs.Reaching.{Reached-state_of}
 use Rattle.uv_machine.proofs.Turning.{commits_next}
 use Rattle.uv_machine.proofs.Turns.{Made, object_made, IsTurn-allowed}
+use Rattle.uv_machine.specs.Made.{is_at}
 use Rattle.uv_graph.specs.declared.out.Out.{Out}
 use Rattle.uv_pool.specs.Deeds.{DeedFacts, TellsLives, TellsBefore}
 use Rattle.uv_graph.specs.Deeds.{IsDeedForNew, out_for}
-use Rattle.uv_graph.specs.Kept.{Kept, the_out, put_out, out_of, kill_of}
-use Rattle.uv_graph.specs.Lives.{identity_of, life_of, is_at, life_if, life_in, new_by, lives_in}
+use Rattle.uv_graph.specs.Hands.{made_identity}
+use Rattle.uv_graph.specs.Kept.{Kept, the_out, put_out, out_of}
+use Rattle.uv_graph.specs.Lives.{identity_of, known_in, lives_out, life_of, life_if, life_in, lives_in}
 use Rattle.uv_machine.specs.Logged.{Logged}
-use Rattle.uv_graph.specs.Seats.{stands_at, holder_of, Seat, seat_of, slot_of, deed_in, seat_place, IsPlaced, IsUnheld, IsHeldOrAway, IsAway, IsFor, IsPoolFor, is_giving, HasOut, HasKill, AreHandedOut, IsTied}
+use Rattle.uv_graph.specs.Seats.{stands_at, holder_of, seat_of, slot_of, deed_in, seat_place, IsPlaced, IsUnheld, IsHeldOrAway, IsAway, IsPoolFor, is_giving, HasOut, AreHandedOut, IsTied}
 use Rattle.uv_graph.specs.Slots.{next_deed, after_draw}
 use Rattle.uv_graph.proofs.Finding.{find-last, find-more_fails, find-none}
 use Rattle.uv_graph.proofs.Going.{HasOut-after, HasKill-after}
-use Rattle.uv_graph.proofs.Handing.{OutCase, out_case, AllBeside, PlacedAt, tied_by}
+use Rattle.uv_graph.proofs.Handing.{OutCase, out_case, tied_by}
 use Rattle.uv_graph.proofs.Handing.OutCase.{IsThis, IsThat}
-use Rattle.uv_graph.proofs.Holders.{StandsAt, stands_parts, stands_true, made_stands, made_apart, kind_same, kind_within, Holds, holds_it}
+use Rattle.uv_graph.proofs.Holders.{stands_parts, stands_true, made_stands, made_apart, kind_same, kind_within, holds_it}
 use Rattle.uv_graph.proofs.MachineLaws.{state_goes_on}
 use Rattle.uv_graph.proofs.Planting.{HasAt, has_at, still, placed_some}
 use Rattle.uv_graph.proofs.Taking.{actor_place}
@@ -81,7 +79,10 @@ pub record MakesIt (m m' : State) (c o : ℕ) (item : Object) : Type 0 where
   pub pools : m'.pools ≡ at_place m.pools (kind_place item.kind) (drawn item.index)
   pub objects : m'.objects ≡ m.objects ++ item ∷ []
   pub there : object_with m' o ≡ Some item
-  pub out : HasOut m' c (out_for item)
+  pub out : HasOut m' c (out_for item.uses item)
+  pub call : InFlight
+  pub is : call_of m c ≡ Some call
+  pub known : identity_of item ≡ made_identity call o item.kind
 
 pub record Makes (m m' : State) (c o : ℕ) : Type 0 where
   pub item : Object
@@ -129,9 +130,12 @@ module _ (m : State) (r : Reached m) (numbered : Numbered m) (c o : ℕ) (allowe
             word = ap is_giving word;
             item = z;
             there = ap (object_with m') same ∙ there;
-            same = record { kind = refl; index = refl; generation = refl };
+            same = record { id = refl; kind = refl; request = refl; index = refl; generation = refl };
             phase = inl refl;
           };
+          call = call;
+          is = is;
+          known = ap (λ v. made_identity call v t.kind) same;
         };
       }
 
@@ -239,7 +243,7 @@ module _ {D : Type 0} (tell : D → DeedFacts) (log log' : Logged) (k k' : Kept)
     cell_x : cell_in (slice_get (state_of log.history).pools (kind_place x.kind)) x.index ≡ Some home_x.cell
     cell_x = ap (λ s. cell_in s x.index) it.pool_is ∙ home_x.at
 
-    low_x : x.index < CELLS
+    pub low_x : x.index < CELLS
     low_x = (let long = c_m.cells (kind_place x.kind) it.pool it.pool_is in let low = slice_get_within it.pool.cells x.index home_x.cell home_x.at in omega (arith, long, low))
 
     -- nobody held the cell
@@ -256,7 +260,7 @@ module _ {D : Type 0} (tell : D → DeedFacts) (log log' : Logged) (k k' : Kept)
         cc))
 
     free_before : (seat_of log.history (kind_place x.kind) x.index).holder ≡ None
-    free_before = ap (option_map identity_of) (find-none (stands_at (kind_place x.kind) x.index) (state_of log.history).objects none_held)
+    free_before = ap (option_map (known_in (lives_in log.history (kind_place x.kind) x.index))) (find-none (stands_at (kind_place x.kind) x.index) (state_of log.history).objects none_held)
 
     idle_before : IsUnheld (option_map tell (deed_in (slice_get pools (kind_place x.kind)) x.index)) (kind_place x.kind) x.index (seat_of log.history (kind_place x.kind) x.index) × (option_map tell (slot_of (slice_get held (seat_place (kind_place x.kind) x.index))) ≡ None)
     idle_before =
@@ -282,7 +286,7 @@ module _ {D : Type 0} (tell : D → DeedFacts) (log log' : Logged) (k k' : Kept)
         let same : cell ≡ idle.idle.cell = same_Some cell idle.idle.cell (sym at ∙ ap (λ s. cell_in s i) (sym it.pool_is) ∙ idle.idle.at.is) in
         ap (λ (v : Cell). v.home) same ∙ not_twice idle.idle.cell.home ∙ ap not (sym idle.idle.spent ∙ ap (λ (v : DeedFacts). v.spent) (sym slot.tells)) ∙ ap (homes.is_drawable tell) (sym slot.is)
     home_as i low (Some holder) e placed cell at =
-        let h = holds_it (state_of log.history) (kind_place x.kind) i holder e in
+        let h = holds_it (state_of log.history) (lives_in log.history (kind_place x.kind) i) (kind_place x.kind) i holder e in
         let has = c_m.has h.item h.within h.stands.standing in
         let there : Some cell ≡ Some has.cell = sym at ∙ ap (λ s. cell_in s i) (sym it.pool_is) ∙ ap (λ v. cell_in (slice_get (state_of log.history).pools v) i) (sym h.stands.kind) ∙ ap (cell_in (slice_get (state_of log.history).pools (kind_place h.item.kind))) (sym h.stands.index) ∙ has.is in
         ap (λ (v : Cell). v.home) (same_Some cell has.cell there) ∙ has.out ∙ sym (ap (homes.is_drawable tell) (before_none tell (deed_at pool_x.item i) placed.0))
@@ -312,19 +316,19 @@ module _ {D : Type 0} (tell : D → DeedFacts) (log log' : Logged) (k k' : Kept)
     drawn_some empty =
         none-some idle_before.0.deed (sym (ap (option_map tell) (sym drawn_is ∙ empty)) ∙ idle_before.0.there)
 
-    lives_x : lives_in log'.history (kind_place x.kind) x.index ≡ lives_in log.history (kind_place x.kind) x.index ++ life_of x ∷ []
+    pub lives_x : lives_in log'.history (kind_place x.kind) x.index ≡ lives_in log.history (kind_place x.kind) x.index ++ life_of x ∷ []
     lives_x =
         ap (λ v. lives_in v (kind_place x.kind) x.index) more ∙ lives_go_on log.history e_now (kind_place x.kind) x.index
         ∙ ap (λ y. lives_in log.history (kind_place x.kind) x.index ++ life_in (kind_place x.kind) x.index y) it.there
         ∙ ap (λ b. lives_in log.history (kind_place x.kind) x.index ++ life_if b x) (both_true (eq-eqb (kind_place x.kind) (kind_place x.kind) refl) (eq-eqb x.index x.index refl))
 
     -- and it is the new object's
-    pub drawn_for : (d : D) → Some d ≡ next_deed tell (slice_get pools (kind_place x.kind)) → IsDeedForNew (tell d) x log'.history
+    pub drawn_for : (d : D) → Some d ≡ next_deed tell (slice_get pools (kind_place x.kind)) → IsDeedForNew (tell d) (out_for x.uses x) (lives_out log'.history (Some (out_for x.uses x)))
     drawn_for d is =
         let idle = idle_before.0 in
         let same : tell d ≡ idle.deed = same_Some (tell d) idle.deed (ap (option_map tell) (is ∙ drawn_is) ∙ idle.there) in
         let cells : idle.idle.cell ≡ home_x.cell = same_Some idle.idle.cell home_x.cell (sym idle.idle.at.is ∙ cell_x) in
-        let P : DeedFacts → Type 0 = λ v. IsDeedForNew v x log'.history in
+        let P : DeedFacts → Type 0 = λ v. IsDeedForNew v (out_for x.uses x) (lives_out log'.history (Some (out_for x.uses x))) in
         subst P (sym same)
         (record {
           kind = kind_same idle.deed.kind x.kind idle.idle.at.kind;
@@ -335,7 +339,7 @@ module _ {D : Type 0} (tell : D → DeedFacts) (log log' : Logged) (k k' : Kept)
           lives = told_before idle.deed.lives (life_of x) (lives_in log.history (kind_place x.kind) x.index) (lives_in log'.history (kind_place x.kind) x.index) idle.idle.at.lives lives_x;
         })
 
-    lives_beside : (a b : ℕ) → (kind_place x.kind ≡ a → x.index ≡ b → ⊥) → lives_in log'.history a b ≡ lives_in log.history a b
+    pub lives_beside : (a b : ℕ) → (kind_place x.kind ≡ a → x.index ≡ b → ⊥) → lives_in log'.history a b ≡ lives_in log.history a b
     lives_beside a b apart =
         let fails : is_at a b x ≡ false = no_stand (is_at a b x) (λ h. (let parts = and_parts (kind_place x.kind == a) (x.index == b) h in apart (eqb-true (kind_place x.kind) a parts.0) (eqb-true x.index b parts.1))) in
         ap (λ v. lives_in v a b) more ∙ lives_go_on log.history e_now a b
@@ -358,47 +362,48 @@ module _ {D : Type 0} (tell : D → DeedFacts) (log log' : Logged) (k k' : Kept)
         (λ h. ap (λ s. cell_in s b) (slice_get-at_place_other (state_of log.history).pools (kind_place x.kind) a (drawn x.index) (λ same. h.1 (sym same))))
         (eqb_tells (kind_place x.kind) a)
 
-    holder_beside : (a b : ℕ) → (kind_place x.kind ≡ a → x.index ≡ b → ⊥) → holder_of (state_of log'.history).objects a b ≡ holder_of (state_of log.history).objects a b
+    holder_beside : (a b : ℕ) → (kind_place x.kind ≡ a → x.index ≡ b → ⊥) → (seat_of log'.history a b).holder ≡ (seat_of log.history a b).holder
     holder_beside a b apart =
-        ap (λ v. holder_of v a b) objects_m
-        ∙ ap (option_map identity_of) (find-more_fails (stands_at a b) x (state_of log.history).objects (no_stand (stands_at a b x) (λ h. (let s = stands_parts a b x h in apart s.kind s.index))))
+        ap (λ ls. holder_of ls (state_of log'.history).objects a b) (lives_beside a b apart)
+        ∙ ap (λ v. holder_of (lives_in log.history a b) v a b) objects_m
+        ∙ ap (option_map (known_in (lives_in log.history a b))) (find-more_fails (stands_at a b) x (state_of log.history).objects (no_stand (stands_at a b x) (λ h. (let s = stands_parts a b x h in apart s.kind s.index))))
 
     made_stand : is_husk x.phase ≡ false
     made_stand = made_stands x.phase it.phase
 
-    holder_now : (seat_of log'.history (kind_place x.kind) x.index).holder ≡ Some (identity_of x)
+    holder_now : (seat_of log'.history (kind_place x.kind) x.index).holder ≡ Some (known_in (lives_in log'.history (kind_place x.kind) x.index) x)
     holder_now =
-        ap (λ v. holder_of v (kind_place x.kind) x.index) objects_m
-        ∙ ap (option_map identity_of) (find-last (stands_at (kind_place x.kind) x.index) x (state_of log.history).objects (stands_true x made_stand) (find-none (stands_at (kind_place x.kind) x.index) (state_of log.history).objects none_held))
+        ap (λ v. holder_of (lives_in log'.history (kind_place x.kind) x.index) v (kind_place x.kind) x.index) objects_m
+        ∙ ap (option_map (known_in (lives_in log'.history (kind_place x.kind) x.index))) (find-last (stands_at (kind_place x.kind) x.index) x (state_of log.history).objects (stands_true x made_stand) (find-none (stands_at (kind_place x.kind) x.index) (state_of log.history).objects none_held))
 
-    module _ (draws : pools' ≡ at_place pools (kind_place x.kind) (after_draw tell)) (outs : k'.outs ≡ at_place k.outs c (put_out (Some (out_for x)))) (kills : k'.kills ≡ k.kills)
+    module _ (draws : pools' ≡ at_place pools (kind_place x.kind) (after_draw tell)) (outs : k'.outs ≡ at_place k.outs c (put_out (Some (out_for x.uses x)))) (kills : k'.kills ≡ k.kills)
         (legal : IsLegal log'.history) (history : k'.history ≡ log'.history) (covered : sum k'.spares ≤ log'.spare) where
       slot_c : HasAt k.outs c
       slot_c = actor_place c k.outs allowed.0 t.outs_size
 
-      case_c : (a : ℕ) → OutCase (out_of k a) (out_of k' a) c a (Some (out_for x))
-      case_c a = out_case k.outs k'.outs c a (Some (out_for x)) slot_c.item outs slot_c.is
+      case_c : (a : ℕ) → OutCase (out_of k a) (out_of k' a) c a (Some (out_for x.uses x))
+      case_c a = out_case k.outs k'.outs c a (Some (out_for x.uses x)) slot_c.item outs slot_c.is
 
       moves_c : (a b o' : ℕ) → IsAway k a b o' → IsAway k' a b o'
       moves_c a b o' w = record {
         actor = w.actor;
         out = w.out;
-        named = ⊎_elim (λ e. still k k' c w.actor w.out (Some (out_for x)) e (case_c w.actor) (λ mine. none-some w.out (sym none ∙ ap (out_of k) mine ∙ e))) (λ e. inr (ap (λ v. the_out (slice_get v w.actor)) kills ∙ e)) w.named;
+        named = ⊎_elim (λ e. still k k' c w.actor w.out (Some (out_for x.uses x)) e (case_c w.actor) (λ mine. none-some w.out (sym none ∙ ap (out_of k) mine ∙ e))) (λ e. inr (ap (λ v. the_out (slice_get v w.actor)) kills ∙ e)) w.named;
         kind = w.kind;
         index = w.index;
         object = w.object;
       }
 
-      put_c : OutCase (out_of k c) (out_of k' c) c c (Some (out_for x)) → out_of k' c ≡ Some (out_for x)
+      put_c : OutCase (out_of k c) (out_of k' c) c c (Some (out_for x.uses x)) → out_of k' c ≡ Some (out_for x.uses x)
       put_c (IsThis mine now) = now
       put_c (IsThat other now) = absurd (other refl)
 
       away_c : IsAway k' (kind_place x.kind) x.index x.id
-      away_c = record { actor = c; out = out_for x; named = inl (put_c (case_c c)); kind = refl; index = refl; object = refl }
+      away_c = record { actor = c; out = out_for x.uses x; named = inl (put_c (case_c c)); kind = refl; index = refl; object = refl }
 
-      outs_c : (a : ℕ) (out : Out) → out_of k' a ≡ Some out → OutCase (out_of k a) (out_of k' a) c a (Some (out_for x)) → HasOut (after (state_of log.history) e_now) a out
+      outs_c : (a : ℕ) (out : Out) → out_of k' a ≡ Some out → OutCase (out_of k a) (out_of k' a) c a (Some (out_for x.uses x)) → HasOut (after (state_of log.history) e_now) a out
       outs_c a out is (IsThis mine now) =
-          let one : out_for x ≡ out = same_Some (out_for x) out (sym now ∙ is) in
+          let one : out_for x.uses x ≡ out = same_Some (out_for x.uses x) out (sym now ∙ is) in
           let P : ℕ → Type 0 = λ v. HasOut (after (state_of log.history) e_now) v out in
           let Q : Out → Type 0 = λ v. HasOut (after (state_of log.history) e_now) c v in
           subst P mine (subst Q one it.out)
@@ -456,7 +461,7 @@ module _ {D : Type 0} (tell : D → DeedFacts) (log log' : Logged) (k k' : Kept)
           let a = kind_place x.kind in
           let b = x.index in
           let gone : slot_of (slice_get held (seat_place a b)) ≡ None = before_none tell (slot_of (slice_get held (seat_place a b))) idle_before.1 in
-          let P : Option D → Type 0 = λ v. IsHeldOrAway k' (option_map tell v) a b (seat_of log'.history a b) (identity_of x) in
+          let P : Option D → Type 0 = λ v. IsHeldOrAway k' (option_map tell v) a b (seat_of log'.history a b) (known_in (lives_in log'.history (kind_place x.kind) x.index) x) in
           let empty : option_map tell (deed_in (slice_get pools' a) b) ≡ None = ap (λ s. option_map tell (deed_in s b)) drawn_pool ∙ ap (option_map tell) (deed_at-drawn_same pool_x.item b) in
           tied_by tell log log' k k' pools pools' held held a b t
           (record {
@@ -465,8 +470,8 @@ module _ {D : Type 0} (tell : D → DeedFacts) (log log' : Logged) (k k' : Kept)
             planted = λ i j low apart. refl;
             away = λ i j o' apart w. moves_c i j o' w;
           })
-          (placed_some k' _ _ a b (seat_of log'.history a b) (identity_of x) holder_now empty (subst P (sym gone) away_c))
-          history legal covered refl (ap (λ v. length v) draws ∙ length-at_place pools a (after_draw tell)) (ap (λ v. length v) outs ∙ length-at_place k.outs c (put_out (Some (out_for x)))) (ap (λ v. length v) kills)
+          (placed_some k' _ _ a b (seat_of log'.history a b) (known_in (lives_in log'.history (kind_place x.kind) x.index) x) holder_now empty (subst P (sym gone) away_c))
+          history legal covered refl (ap (λ v. length v) draws ∙ length-at_place pools a (after_draw tell)) (ap (λ v. length v) outs ∙ length-at_place k.outs c (put_out (Some (out_for x.uses x)))) (ap (λ v. length v) kills)
           pools_are_m
           (λ i out is. out_now log.history log'.history e_now i out more (outs_c i out is (case_c i)))
           (λ i out is. kill_now log.history log'.history e_now i out more (HasKill-after (state_of log.history) e_now i out r_m allowed refl (t.kills i out (sym (ap (λ v. the_out (slice_get v i)) kills) ∙ is))))

@@ -1,5 +1,5 @@
 -- An entry of one actor leaves every other actor's own part as it was.
-use Rattle.std.proofs.Common.{◌≡◌, ◌≢◌, ℕ, ◌<◌, Bool, true, false, List, Option, Some, None, length, map, get_or, refl, ap, sym, ◌∙◌, subst, arith, ⊎_elim}
+use Rattle.std.proofs.Common.{◌≡◌, ◌≢◌, ℕ, ◌<◌, Bool, true, false, List, Option, Some, None, length, map, get_or, refl, ap, sym, ◌∙◌, subst, arith, inl, inr, ⊎_elim}
 use Rattle.std.specs.Prelude.{not, ◌&&◌, ◌==◌, slice_get, option_map, position, if◌then◌else◌}
 use Rattle.std.proofs.lemmas.Option.{slice_get-get_or}
 use Rattle.std.proofs.lemmas.Bool.{eqb-true, ne_eqb}
@@ -33,8 +33,12 @@ use Rattle.uv_machine.proofs.Turns.{Turn, IsTurn-allowed}
 use Rattle.uv_machine.proofs.Turns.Turn.{Refuses, Reserves, Looks, Makes, Commits, Does, Locks, Checks, Finishes, Aborts, Frees, Leaves}
 use Rattle.uv_graph.specs.declared.out.Out.{Out}
 use Rattle.uv_graph.specs.declared.out.Own.{Own}
-use Rattle.uv_graph.specs.Owns.{is_torn_by, tears_it, none_pulled, pulled_by, is_entry_by, OwnStandsApart}
+use Rattle.uv_graph.specs.Owns.{is_torn_by, tears_it, none_pulled, pulled_by, is_entry_by, OwnStandsApart, NamesItsActor}
+use Rattle.uv_pool.specs.declared.deed.Life.{Life}
+use Rattle.uv_graph.specs.Kept.{out_of, kill_of}
+use Rattle.uv_graph.specs.Lives.{lives_out}
 use Rattle.uv_graph.proofs.Going.{was_fresh}
+use Rattle.uv_graph.proofs.Knowing.{out_stays, kill_stays}
 use Rattle.uv_graph.proofs.MachineLaws.{state_goes_on}
 use Rattle.uv_graph.proofs.Making.{map_same}
 use Rattle.uv_graph.proofs.Taking.{torn_is}
@@ -196,28 +200,51 @@ pulled_alike m (Closed f) a b allowed is ne = refl
 
 -- The whole.
 
-own_eq : (b : ℕ) (call call' : Option InFlight) (out out' : Option Out) (tear tear' : Option ℕ) (kill kill' : Option Out) (spare spare' : ℕ) (pulled pulled' : List Bool)
-    → call' ≡ call → out' ≡ out → tear' ≡ tear → kill' ≡ kill → spare' ≡ spare → pulled' ≡ pulled
-    → record { actor = b; call = call'; out = out'; tear = tear'; kill = kill'; spare = spare'; pulled = pulled' } ≡ (let own : Own = record { actor = b; call = call; out = out; tear = tear; kill = kill; spare = spare; pulled = pulled } in own)
-own_eq b call call' out out' tear tear' kill kill' spare spare' pulled pulled' e1 e2 e3 e4 e5 e6 =
-    ap (λ v. record { actor = b; call = v; out = out'; tear = tear'; kill = kill'; spare = spare'; pulled = pulled' }) e1
-    ∙ ap (λ v. record { actor = b; call = call; out = v; tear = tear'; kill = kill'; spare = spare'; pulled = pulled' }) e2
-    ∙ ap (λ v. record { actor = b; call = call; out = out; tear = v; kill = kill'; spare = spare'; pulled = pulled' }) e3
-    ∙ ap (λ v. record { actor = b; call = call; out = out; tear = tear; kill = v; spare = spare'; pulled = pulled' }) e4
-    ∙ ap (λ v. record { actor = b; call = call; out = out; tear = tear; kill = kill; spare = v; pulled = pulled' }) e5
-    ∙ ap (λ v. record { actor = b; call = call; out = out; tear = tear; kill = kill; spare = spare; pulled = v }) e6
+own_eq : (b : ℕ) (call call' : Option InFlight) (out out' : Option Out) (lives lives' : List Life) (tear tear' : Option ℕ) (kill kill' : Option Out) (ends ends' : List Life) (spare spare' : ℕ) (pulled pulled' : List Bool)
+    → call' ≡ call → out' ≡ out → lives' ≡ lives → tear' ≡ tear → kill' ≡ kill → ends' ≡ ends → spare' ≡ spare → pulled' ≡ pulled
+    → record { actor = b; call = call'; out = out'; out_lives = lives'; tear = tear'; kill = kill'; kill_lives = ends'; spare = spare'; pulled = pulled' }
+    ≡ (let own : Own = record { actor = b; call = call; out = out; out_lives = lives; tear = tear; kill = kill; kill_lives = ends; spare = spare; pulled = pulled } in own)
+own_eq b call call' out out' lives lives' tear tear' kill kill' ends ends' spare spare' pulled pulled' e1 e2 e3 e4 e5 e6 e7 e8 =
+    ap (λ v. record { actor = b; call = v; out = out'; out_lives = lives'; tear = tear'; kill = kill'; kill_lives = ends'; spare = spare'; pulled = pulled' }) e1
+    ∙ ap (λ v. record { actor = b; call = call; out = v; out_lives = lives'; tear = tear'; kill = kill'; kill_lives = ends'; spare = spare'; pulled = pulled' }) e2
+    ∙ ap (λ v. record { actor = b; call = call; out = out; out_lives = v; tear = tear'; kill = kill'; kill_lives = ends'; spare = spare'; pulled = pulled' }) e3
+    ∙ ap (λ v. record { actor = b; call = call; out = out; out_lives = lives; tear = v; kill = kill'; kill_lives = ends'; spare = spare'; pulled = pulled' }) e4
+    ∙ ap (λ v. record { actor = b; call = call; out = out; out_lives = lives; tear = tear; kill = v; kill_lives = ends'; spare = spare'; pulled = pulled' }) e5
+    ∙ ap (λ v. record { actor = b; call = call; out = out; out_lives = lives; tear = tear; kill = kill; kill_lives = v; spare = spare'; pulled = pulled' }) e6
+    ∙ ap (λ v. record { actor = b; call = call; out = out; out_lives = lives; tear = tear; kill = kill; kill_lives = ends; spare = v; pulled = pulled' }) e7
+    ∙ ap (λ v. record { actor = b; call = call; out = out; out_lives = lives; tear = tear; kill = kill; kill_lives = ends; spare = spare; pulled = v }) e8
+
+-- the lives of a cell whose deed is out
+lives_alike : (h g : List Entry) (hand : Option Out) → ((out : Out) → hand ≡ Some out → lives_out g (Some out) ≡ lives_out h (Some out)) → lives_out g hand ≡ lives_out h hand
+lives_alike h g None stay = refl
+lives_alike h g (Some out) stay = stay out refl
 
 pub own-apart : OwnStandsApart
-own-apart old new e a b legal allowed is ne more beside =
+own-apart old new e a b legal outs allowed is ne more beside =
     let m = state_of old.history in
     let now : state_of new.history ≡ after m e = ap state_of more ∙ state_goes_on old.history e in
     let r = Reached-state_of old.history legal in
     let r' = Reached-after m e allowed r in
     let long : length (after m e).files ≡ length m.files = r'.files ∙ sym r.files in
-    own_eq b _ _ _ _ _ _ _ _ _ _ _ _
+    own_eq b _ _ _ _ _ _ _ _ _ _ _ _ _ _ _ _
     (ap (λ s. call_of s b) now ∙ call_of-after m e b (own_call m e a b is ne))
     (beside.outs b ne)
+    (ap (lives_out new.history) (beside.outs b ne) ∙ lives_alike old.history new.history (out_of old b) (λ out h. out_stays old.history new.history e more legal allowed b out (outs.outs b out h)))
     (ap (λ (s : State). position (tears_it b) s.files) now ∙ tear_same b m (after m e) long (torn_alike m e a b allowed is ne))
     (beside.kills b ne)
+    (ap (lives_out new.history) (beside.kills b ne) ∙ lives_alike old.history new.history (kill_of old b) (λ out h. kill_stays old.history new.history e more legal allowed b out (outs.kills b out h)))
     (beside.spares b ne)
     (ap (λ s. pulled_by s b) now ∙ pulled_alike m e a b allowed is ne)
+
+-- Whom an entry names.
+
+pub names-actor : NamesItsActor
+names-actor m (Open c f d x) a is = inl (ap (λ (v : ℕ). Some v) (eqb-true c a is))
+names-actor m (Enter c f request x) a is = inl (ap (λ (v : ℕ). Some v) (eqb-true c a is))
+names-actor m (Step c w o found x) a is = inl (ap (λ (v : ℕ). Some v) (eqb-true c a is))
+names-actor m (Unplug d) a is = inl (ap (λ (v : ℕ). Some v) (eqb-true DRIVER a is))
+names-actor m (Tear f by) a is = inl (ap (λ (v : ℕ). Some v) (eqb-true by a is))
+names-actor m (Kill o) a is = inr refl
+names-actor m (Gone o kept) a is = inr refl
+names-actor m (Dissociated f) a is = inr refl
+names-actor m (Closed f) a is = inr refl

@@ -1,5 +1,5 @@
 -- The object that a call holds exclusively as it is about to check or to finish it.
-use Rattle.std.proofs.Common.{◌≡◌, ℕ, Bool, true, false, Option, Some, None, List, refl, sym, ap, ◌∙◌, ⊎_elim}
+use Rattle.std.proofs.Common.{◌≡◌, ℕ, true, false, Option, Some, None, List, refl, sym, ap, ◌∙◌, ⊎_elim}
 use Rattle.std.specs.Prelude.{◌||◌}
 use Rattle.std.proofs.lemmas.Option.{none-some, same_Some}
 use Rattle.uv_pool.specs.Homes.{Homes}
@@ -68,7 +68,7 @@ husk_by phase.Husk e h = refl
 -- holds the object beside this one, or a teardown of the file while this call is in flight.
 module _ {D : Type 0} (tell : D → DeedFacts) (log : Logged) (k : Kept) (pools : List (Homes D)) (held : List (Option D)) (t : IsTied tell log k pools held)
     (c : ℕ) (call : InFlight) (is : call_of (state_of log.history) c ≡ Some call) (word : next_word call ≡ Finish) (none : out_of k c ≡ None) where
-  not_in_call : (own : IsOwn (state_of log.history) Finish (own_object call)) (b : ℕ) (out : Out) → out_of k b ≡ Some out → out.object ≡ own.item.id → ⊥
+  not_in_call : (own : IsOwn (state_of log.history) Finish (own_object call)) (b : ℕ) (out : Out) → out_of k b ≡ Some out → out.identity.id ≡ own.item.id → ⊥
   not_in_call own b out e object =
       let m = state_of log.history in
       let r = Reached-state_of log.history t.legal in
@@ -79,7 +79,7 @@ module _ {D : Type 0} (tell : D → DeedFacts) (log : Logged) (k : Kept) (pools 
       let both : (true || looks_at o call) ≡ false = ap (λ v. v || looks_at o call) (sym (locks_it o call.locked (finish_locks log.history t.legal c call is word))) ∙ free in
       absurd cc
 
-  not_in_teardown : (own : IsOwn (state_of log.history) Finish (own_object call)) (b : ℕ) (out : Out) → kill_of k b ≡ Some out → out.object ≡ own.item.id → ⊥
+  not_in_teardown : (own : IsOwn (state_of log.history) Finish (own_object call)) (b : ℕ) (out : Out) → kill_of k b ≡ Some out → out.identity.id ≡ own.item.id → ⊥
   not_in_teardown own b out e object =
       let m = state_of log.history in
       let r = Reached-state_of log.history t.legal in

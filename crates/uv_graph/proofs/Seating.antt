@@ -1,22 +1,17 @@
 -- Entries that leave every cell as it was.
-use Rattle.std.proofs.Common.{◌≡◌, ℕ, Bool, true, false, List, ◌∷◌, Option, Some, None, IsSome, length, map, refl, ap, sym, ◌∙◌, subst, arith}
-use Rattle.std.specs.Prelude.{◌+◌, slice_get, unwrap_or, not, ◌&&◌, filter, find, option_map, if◌then◌else◌}
+use Rattle.std.proofs.Common.{◌≡◌, ℕ, Bool, true, false, List, Option, Some, None, IsSome, map, refl, ap, sym, ◌∙◌, subst}
+use Rattle.std.specs.Prelude.{not, ◌&&◌, filter, find, option_map, if◌then◌else◌}
 use Rattle.std.proofs.lemmas.Option.{none-some, same_Some}
-use Rattle.std.proofs.lemmas.Bool.{and_parts, eqb-true, ne_eqb}
+use Rattle.std.proofs.lemmas.Bool.{and_parts, ne_eqb}
 use Rattle.uv_num.specs.declared.errno.Errno.{Errno}
 use Rattle.uv_num.specs.declared.identity.Identity.{Identity}
-use Rattle.uv_num.specs.declared.ids.Ids.{Ids}
-use Rattle.uv_num.specs.declared.ids.Ids.TheVariants.{Empty, One, Two, Three, Four}
-use Rattle.uv_num.specs.Ids.{ids_of, first_alone}
-use Rattle.uv_num.specs.declared.kind.Kind.TheVariants.{Mw}
-use Rattle.uv_num.specs.declared.limits.TheConstants.{NONE}
 use Rattle.uv_num.specs.declared.request.Act as request
 use Rattle.uv_num.specs.declared.request.Act.TheVariants.{Modify, Query, Bind, Unbind, Async}
 use Rattle.uv_num.specs.declared.request.Role.{Role}
 use Rattle.uv_num.specs.declared.request.Role.TheVariants.{Creates, Destroys, Acts}
-use Rattle.uv_num.specs.declared.request.Ask.{Ask}
-use Rattle.uv_num.specs.Looks.{looks_of, asked}
+use Rattle.uv_num.specs.Looks.{asked}
 use Rattle.uv_num.specs.Request.{role_of}
+use Rattle.uv_pool.specs.declared.deed.Life.{Life}
 use Rattle.uv_machine.specs.declared.entry.Entry.{Entry}
 use Rattle.uv_machine.specs.declared.entry.Entry.TheVariants.{Open, Enter, Step, Unplug, Tear, Kill, Gone, Dissociated, Closed}
 use Rattle.uv_machine.specs.declared.entry.Word.{Word}
@@ -29,33 +24,29 @@ use Rattle.uv_machine.specs.declared.object.Object.{Object}
 use Rattle.uv_machine.specs.declared.object.Change.TheVariants.{ToLive, ToDoomed, ToBound}
 use Rattle.uv_machine.specs.declared.call.InFlight.{InFlight}
 use Rattle.uv_machine.specs.declared.state.State.{State}
-use Rattle.uv_machine.specs.Objects.{has_id, is_live, is_doomed, is_husk, live_from, doomed_from, bound_uses, with_change, on_object}
-use Rattle.uv_machine.specs.Plans.{acted_on, next_word}
-use Rattle.uv_machine.specs.States.{call_of, object_with, is_quiet, is_closing, has_standing, phase_of}
+use Rattle.uv_machine.specs.Objects.{has_id, is_doomed, is_husk, live_from, doomed_from, with_change, on_object}
+use Rattle.uv_machine.specs.Plans.{acted_on}
+use Rattle.uv_machine.specs.States.{object_with, is_quiet, is_closing, has_standing, phase_of}
 use Rattle.uv_machine.specs.Effects.{refusal_in, commit, check, left, act, act_by, binding_of, buried_if_doomed, with_burial, finish, not_with_id, not_in_file, unless_answered, unless_refused, after_step, stepped}
 use Rattle.uv_machine.specs.Histories.{Allowed, after}
-use Rattle.uv_machine.specs.Reached.{IsIn, Reached, AllSuit, is_early}
-use Rattle.uv_machine.proofs.Members.{Passes-find}
+use Rattle.uv_machine.specs.Reached.{IsIn, Reached}
 use Rattle.uv_machine.proofs.Graph.{find_rising}
-use Rattle.uv_machine.proofs.Planned.{InPlan, in_plan, stands_in_plan, next_word-planned}
-use Rattle.uv_machine.proofs.Phased.{looks_in, act_has}
 use Rattle.uv_machine.proofs.Turns.{IsTurn-allowed}
 use Rattle.uv_machine.proofs.Holding.{finish_objects}
-use Rattle.uv_machine.proofs.Suiting.{bind_looks, unbind_looks}
 use Rattle.uv_machine.proofs.Balanced.{not_standing}
-use Rattle.uv_graph.specs.Lives.{identity_of, first_uses, is_at}
+use Rattle.uv_machine.specs.Made.{is_at}
+use Rattle.uv_graph.specs.Lives.{known_in}
 use Rattle.uv_graph.specs.Notes.{Leaves, WordLeaves, IsHuskIf}
 use Rattle.uv_graph.specs.Seats.{stands_at, holder_of}
-use Rattle.uv_graph.proofs.Domains.{has_one, HasDomains}
 use Rattle.uv_graph.proofs.Finding.{find-map, find-filter}
 
 -- each cell is as it was
 pub record SameSeats (m m' : State) : Type 0 where
   pub pools : m'.pools ≡ m.pools
-  pub holders : (k i : ℕ) → holder_of m'.objects k i ≡ holder_of m.objects k i
+  pub holders : (lives : List Life) (k i : ℕ) → holder_of lives m'.objects k i ≡ holder_of lives m.objects k i
 
 seats_same : (m m' : State) → m'.pools ≡ m.pools → m'.objects ≡ m.objects → SameSeats m m'
-seats_same m m' pools objects = record { pools = pools; holders = λ k i. ap (λ v. holder_of v k i) objects }
+seats_same m m' pools objects = record { pools = pools; holders = λ ls k i. ap (λ v. holder_of ls v k i) objects }
 
 -- Objects that change.
 
@@ -63,18 +54,18 @@ not_so : (b : Bool) → not b ≡ true → b ≡ false
 not_so true e = absurd cc
 not_so false e = refl
 
-twice : (f : Object → Object) (x : Option Object) → ((y : Object) → x ≡ Some y → identity_of (f y) ≡ identity_of y) → option_map identity_of (option_map f x) ≡ option_map identity_of x
-twice f None same = refl
-twice f (Some y) same = ap (λ (v : Identity). Some v) (same y refl)
+twice : (ls : List Life) (f : Object → Object) (x : Option Object) → ((y : Object) → known_in ls (f y) ≡ known_in ls y) → option_map (known_in ls) (option_map f x) ≡ option_map (known_in ls) x
+twice ls f None same = refl
+twice ls f (Some y) same = ap (λ (v : Identity). Some v) (same y)
 
-holder_map : (objects : List Object) (f : Object → Object) (k i : ℕ) → ((x : Object) → IsIn x objects → stands_at k i (f x) ≡ stands_at k i x) → ((x : Object) → IsIn x objects → identity_of (f x) ≡ identity_of x) → holder_of (map f objects) k i ≡ holder_of objects k i
-holder_map objects f k i stands same =
-    ap (option_map identity_of) (find-map (stands_at k i) f objects stands)
-    ∙ twice f (find (stands_at k i) objects) (λ y e. same y (Passes-find (stands_at k i) y objects e).within)
+holder_map : (ls : List Life) (objects : List Object) (f : Object → Object) (k i : ℕ) → ((x : Object) → IsIn x objects → stands_at k i (f x) ≡ stands_at k i x) → ((x : Object) → known_in ls (f x) ≡ known_in ls x) → holder_of ls (map f objects) k i ≡ holder_of ls objects k i
+holder_map ls objects f k i stands same =
+    ap (option_map (known_in ls)) (find-map (stands_at k i) f objects stands)
+    ∙ twice ls f (find (stands_at k i) objects) same
 
-holder_filter : (objects : List Object) (q : Object → Bool) (k i : ℕ) → ((x : Object) → IsIn x objects → is_husk x.phase ≡ false → q x ≡ true) → holder_of (filter q objects) k i ≡ holder_of objects k i
-holder_filter objects q k i keeps =
-    ap (option_map identity_of)
+holder_filter : (ls : List Life) (objects : List Object) (q : Object → Bool) (k i : ℕ) → ((x : Object) → IsIn x objects → is_husk x.phase ≡ false → q x ≡ true) → holder_of ls (filter q objects) k i ≡ holder_of ls objects k i
+holder_filter ls objects q k i keeps =
+    ap (option_map (known_in ls))
     (find-filter (stands_at k i) q objects (λ x h e. keeps x h (not_so (is_husk x.phase) (and_parts (is_at k i x) (not (is_husk x.phase)) e).1)))
 
 live_husk : (p : Phase) → is_husk (live_from p) ≡ is_husk p
@@ -89,18 +80,6 @@ doomed_husk phase.Live = refl
 doomed_husk phase.Doomed = refl
 doomed_husk phase.Husk = refl
 
-bound_first : (binding : Option Binding) (uses : Ids) → has_one uses ≡ true → first_alone (bound_uses binding uses) ≡ first_alone uses
-bound_first None Empty one = absurd cc
-bound_first None (One a) one = refl
-bound_first None (Two a b) one = refl
-bound_first None (Three a b c) one = refl
-bound_first None (Four a b c d) one = refl
-bound_first (Some binding) Empty one = absurd cc
-bound_first (Some binding) (One a) one = refl
-bound_first (Some binding) (Two a b) one = refl
-bound_first (Some binding) (Three a b c) one = refl
-bound_first (Some binding) (Four a b c d) one = refl
-
 stands_live : (k i : ℕ) (b : Bool) (x : Object) → stands_at k i (if b then with_change ToLive x else x) ≡ stands_at k i x
 stands_live k i true x = ap (λ h. is_at k i x && not h) (live_husk x.phase)
 stands_live k i false x = refl
@@ -113,56 +92,39 @@ stands_bound : (k i : ℕ) (b : Bool) (binding : Option Binding) (x : Object) �
 stands_bound k i true binding x = refl
 stands_bound k i false binding x = refl
 
-known_live : (b : Bool) (x : Object) → identity_of (if b then with_change ToLive x else x) ≡ identity_of x
-known_live true x = refl
-known_live false x = refl
+known_live : (ls : List Life) (b : Bool) (x : Object) → known_in ls (if b then with_change ToLive x else x) ≡ known_in ls x
+known_live ls true x = refl
+known_live ls false x = refl
 
-known_doomed : (b : Bool) (x : Object) → identity_of (if b then with_change ToDoomed x else x) ≡ identity_of x
-known_doomed true x = refl
-known_doomed false x = refl
+known_doomed : (ls : List Life) (b : Bool) (x : Object) → known_in ls (if b then with_change ToDoomed x else x) ≡ known_in ls x
+known_doomed ls true x = refl
+known_doomed ls false x = refl
 
-known_bound : (b : Bool) (binding : Option Binding) (x : Object) → (b ≡ true → (x.kind ≡ Mw) × (has_one x.uses ≡ true)) → identity_of (if b then with_change (ToBound binding) x else x) ≡ identity_of x
-known_bound true binding x window =
-    let e = (window refl).0 in
-    let uses : first_uses x.kind (bound_uses binding x.uses) ≡ first_uses x.kind x.uses =
-    ap (λ k. first_uses k (bound_uses binding x.uses)) e ∙ bound_first binding x.uses (window refl).1 ∙ sym (ap (λ k. first_uses k x.uses) e) in
-    let P : Ids → Identity = λ v. record { id = x.id; kind = x.kind; request = x.request; uses = v } in
-    ap P uses
-known_bound false binding x window = refl
+-- a bind leaves what a window is known by
+known_bound : (ls : List Life) (b : Bool) (binding : Option Binding) (x : Object) → known_in ls (if b then with_change (ToBound binding) x else x) ≡ known_in ls x
+known_bound ls true binding x = refl
+known_bound ls false binding x = refl
 
 seats_live : (m m' : State) (o : ℕ) → m'.pools ≡ m.pools → m'.objects ≡ map (on_object o ToLive) m.objects → SameSeats m m'
 seats_live m m' o pools objects = record {
   pools = pools;
-  holders = λ k i. ap (λ v. holder_of v k i) objects ∙ holder_map m.objects (on_object o ToLive) k i (λ x h. stands_live k i (has_id o x) x) (λ x h. known_live (has_id o x) x);
+  holders = λ ls k i. ap (λ v. holder_of ls v k i) objects ∙ holder_map ls m.objects (on_object o ToLive) k i (λ x h. stands_live k i (has_id o x) x) (λ x. known_live ls (has_id o x) x);
 }
 
 seats_doomed : (m m' : State) (o : ℕ) → m'.pools ≡ m.pools → m'.objects ≡ map (on_object o ToDoomed) m.objects → SameSeats m m'
 seats_doomed m m' o pools objects = record {
   pools = pools;
-  holders = λ k i. ap (λ v. holder_of v k i) objects ∙ holder_map m.objects (on_object o ToDoomed) k i (λ x h. stands_doomed k i (has_id o x) x) (λ x h. known_doomed (has_id o x) x);
+  holders = λ ls k i. ap (λ v. holder_of ls v k i) objects ∙ holder_map ls m.objects (on_object o ToDoomed) k i (λ x h. stands_doomed k i (has_id o x) x) (λ x. known_doomed ls (has_id o x) x);
 }
 
-seats_bound : (m m' : State) (o : ℕ) (binding : Option Binding) → m'.pools ≡ m.pools → m'.objects ≡ map (on_object o (ToBound binding)) m.objects → ((x : Object) → IsIn x m.objects → x.id ≡ o → (x.kind ≡ Mw) × (has_one x.uses ≡ true)) → SameSeats m m'
-seats_bound m m' o binding pools objects windows = record {
+seats_bound : (m m' : State) (o : ℕ) (binding : Option Binding) → m'.pools ≡ m.pools → m'.objects ≡ map (on_object o (ToBound binding)) m.objects → SameSeats m m'
+seats_bound m m' o binding pools objects = record {
   pools = pools;
-  holders = λ k i. ap (λ v. holder_of v k i) objects
-      ∙ holder_map m.objects (on_object o (ToBound binding)) k i (λ x h. stands_bound k i (has_id o x) binding x) (λ x h. known_bound (has_id o x) binding x (λ e. windows x h (eqb-true x.id o e)));
+  holders = λ ls k i. ap (λ v. holder_of ls v k i) objects
+      ∙ holder_map ls m.objects (on_object o (ToBound binding)) k i (λ x h. stands_bound k i (has_id o x) binding x) (λ x. known_bound ls (has_id o x) binding x);
 }
 
--- An act on a window.
-
-first_suits_by : (objects : List Object) (f w : ℕ) (rest : List Ask) (ids : Ids) (n : ℕ) → length (ids_of ids) ≡ n + 1 → AllSuit objects f (ids_of ids) (asked Mw w ∷ rest) → (y : Object) → IsIn y objects → y.id ≡ unwrap_or (slice_get (ids_of ids) 0) NONE → (y.kind ≡ Mw) × (is_live y.phase ≡ true)
-first_suits_by objects f w rest Empty n long all y k e = absurd (omega (arith, long))
-first_suits_by objects f w rest (One a) n long all y k e = let s = all.0 y k e in (s.kind, s.live)
-first_suits_by objects f w rest (Two a b) n long all y k e = let s = all.0 y k e in (s.kind, s.live)
-first_suits_by objects f w rest (Three a b c) n long all y k e = let s = all.0 y k e in (s.kind, s.live)
-first_suits_by objects f w rest (Four a b c d) n long all y k e = let s = all.0 y k e in (s.kind, s.live)
-
-live_stands : (p : Phase) → is_live p ≡ true → is_husk p ≡ false
-live_stands phase.Made e = absurd cc
-live_stands phase.Live e = refl
-live_stands phase.Doomed e = absurd cc
-live_stands phase.Husk e = absurd cc
+-- Steps.
 
 husk_not_doomed : (p : Phase) → is_husk p ≡ true → is_doomed p ≡ false
 husk_not_doomed phase.Made e = refl
@@ -174,35 +136,18 @@ husk_there : (x : Object) (slot : Option Object) → slot ≡ Some x → IsHuskI
 husk_there x None e husk stands = none-some x e
 husk_there x (Some y) e husk stands = let same : is_husk y.phase ≡ is_husk x.phase = ap (λ (v : Object). is_husk v.phase) (same_Some y x e) in cc
 
-module _ (m : State) (r : Reached m) (d : HasDomains m.objects) (c : ℕ) (call : InFlight) (is : call_of m c ≡ Some call) where
-  -- what a call that is about to act on a window acts on is one
-  acts_on_window : (plan : InPlan call Act) (w : ℕ) (rest : List Ask) → looks_of call.request ≡ asked Mw w ∷ rest → (y : Object) → IsIn y m.objects → y.id ≡ acted_on call → (y.kind ≡ Mw) × (has_one y.uses ≡ true)
-  acts_on_window plan w rest looks y k e =
-      let s = stands_in_plan call Act plan in
-      let has = (act_has call s.act (r.phased c call is) plan.fine s.acts).looking (omega (arith, s.at)) in
-      let counted : looks_in call ≡ length (asked Mw w ∷ rest) = ap (λ (v : List Ask). length v) looks in
-      let long : looks_in call ≡ length rest + 1 = omega (arith, counted) in
-      let count : length (ids_of call.looked) ≡ length rest + 1 = omega (arith, has.looks_are, s.at, long) in
-      let P : List Ask → Type 0 = λ v. AllSuit m.objects call.file (ids_of call.looked) v in
-      let early : is_early (next_word call) ≡ true = ap is_early (next_word-planned call Act plan.fine plan.planned) in
-      let found = first_suits_by m.objects call.file w rest call.looked (length rest) count (subst P looks ((r.holds_well c call is).suits early)) y k e in
-      (found.0, d y k found.0 (live_stands y.phase found.1))
+module _ (m : State) (r : Reached m) (c : ℕ) (call : InFlight) where
+  seats_act : (a : Answer) (what : request.Act) → SameSeats m (act m c call a what)
+  seats_act a (Modify to attrs) = seats_same m (act m c call a (Modify to attrs)) refl refl
+  seats_act a Query = seats_same m (act m c call a Query) refl refl
+  seats_act a (Bind offset long access) = seats_bound m (act m c call a (Bind offset long access)) (acted_on call) (Some (binding_of call offset long access)) refl refl
+  seats_act a (Unbind offset long access) = seats_bound m (act m c call a (Unbind offset long access)) (acted_on call) None refl refl
+  seats_act a Async = seats_same m (act m c call a Async) refl refl
 
-  seats_act : (a : Answer) (what : request.Act) → InPlan call Act → role_of call.request ≡ Acts what → SameSeats m (act m c call a what)
-  seats_act a (Modify to attrs) plan role = seats_same m (act m c call a (Modify to attrs)) refl refl
-  seats_act a Query plan role = seats_same m (act m c call a Query) refl refl
-  seats_act a (Bind offset long access) plan role =
-      let b = bind_looks call.request offset long access role in
-      seats_bound m (act m c call a (Bind offset long access)) (acted_on call) (Some (binding_of call offset long access)) refl refl (acts_on_window plan b.window _ b.looks)
-  seats_act a (Unbind offset long access) plan role =
-      let b = unbind_looks call.request offset long access role in
-      seats_bound m (act m c call a (Unbind offset long access)) (acted_on call) None refl refl (acts_on_window plan b.window _ b.looks)
-  seats_act a Async plan role = seats_same m (act m c call a Async) refl refl
-
-  seats_act_by : (a : Answer) (role : Role) → InPlan call Act → role_of call.request ≡ role → SameSeats m (act_by m c call a role)
-  seats_act_by a (Creates kind) plan e = seats_same m m refl refl
-  seats_act_by a (Destroys asked) plan e = seats_same m m refl refl
-  seats_act_by a (Acts what) plan e = seats_act a what plan e
+  seats_act_by : (a : Answer) (role : Role) → SameSeats m (act_by m c call a role)
+  seats_act_by a (Creates kind) = seats_same m m refl refl
+  seats_act_by a (Destroys asked) = seats_same m m refl refl
+  seats_act_by a (Acts what) = seats_act a what
 
   seats_unless : (m' : State) (e : Option Errno) → SameSeats m m' → SameSeats m (unless_refused m c e m')
   seats_unless m' None s = s
@@ -226,21 +171,21 @@ module _ (m : State) (r : Reached m) (d : HasDomains m.objects) (c : ℕ) (call 
   seats_finish : (o : ℕ) → IsHuskIf (object_with m o) → SameSeats m (finish m c o)
   seats_finish o husk = record {
     pools = husk_pools o (object_with m o) husk;
-    holders = λ k i. ap (λ v. holder_of v k i) (finish_objects m c o) ∙ holder_filter m.objects (not_with_id o) k i (none_there o (object_with m o) refl husk);
+    holders = λ ls k i. ap (λ v. holder_of ls v k i) (finish_objects m c o) ∙ holder_filter ls m.objects (not_with_id o) k i (none_there o (object_with m o) refl husk);
   }
 
-  seats_stepped : (w : Word) (o : ℕ) (a : Answer) → next_word call ≡ w → WordLeaves w (refusal_in a) (object_with m o) → SameSeats m (stepped m c call w o a)
-  seats_stepped Reserve o a word leaves = seats_unless _ (refusal_in a) (seats_same m _ refl refl)
-  seats_stepped Look o a word leaves = seats_unless _ (refusal_in a) (seats_same m _ refl refl)
-  seats_stepped Make o a word leaves = seats_refused _ (refusal_in a) leaves
-  seats_stepped Commit o a word leaves = seats_unless (commit m c o) (refusal_in a) (seats_live m (commit m c o) o refl refl)
-  seats_stepped Act o a word leaves = seats_unless _ (refusal_in a) (seats_act_by a (role_of call.request) (in_plan call Act word refl) refl)
-  seats_stepped Lock o a word leaves = seats_unless _ (refusal_in a) (seats_same m _ refl refl)
-  seats_stepped Check o a word leaves = seats_unless (check m c o) (refusal_in a) (seats_doomed m (check m c o) o refl refl)
-  seats_stepped Finish o a word leaves = seats_unless (finish m c o) (refusal_in a) (seats_finish o leaves)
-  seats_stepped Abort o a word leaves = seats_unless _ (refusal_in a) (seats_same m _ refl refl)
-  seats_stepped Free o a word leaves = seats_unless _ (refusal_in a) (seats_same m _ refl refl)
-  seats_stepped Exit o a word leaves = seats_same m (left m c) refl refl
+  seats_stepped : (w : Word) (o : ℕ) (a : Answer) → WordLeaves w (refusal_in a) (object_with m o) → SameSeats m (stepped m c call w o a)
+  seats_stepped Reserve o a leaves = seats_unless _ (refusal_in a) (seats_same m _ refl refl)
+  seats_stepped Look o a leaves = seats_unless _ (refusal_in a) (seats_same m _ refl refl)
+  seats_stepped Make o a leaves = seats_refused _ (refusal_in a) leaves
+  seats_stepped Commit o a leaves = seats_unless (commit m c o) (refusal_in a) (seats_live m (commit m c o) o refl refl)
+  seats_stepped Act o a leaves = seats_unless _ (refusal_in a) (seats_act_by a (role_of call.request))
+  seats_stepped Lock o a leaves = seats_unless _ (refusal_in a) (seats_same m _ refl refl)
+  seats_stepped Check o a leaves = seats_unless (check m c o) (refusal_in a) (seats_doomed m (check m c o) o refl refl)
+  seats_stepped Finish o a leaves = seats_unless (finish m c o) (refusal_in a) (seats_finish o leaves)
+  seats_stepped Abort o a leaves = seats_unless _ (refusal_in a) (seats_same m _ refl refl)
+  seats_stepped Free o a leaves = seats_unless _ (refusal_in a) (seats_same m _ refl refl)
+  seats_stepped Exit o a leaves = seats_same m (left m c) refl refl
 
 seats_answered : (m m' : State) (e : Option Errno) → SameSeats m m' → SameSeats m (unless_answered m e m')
 seats_answered m m' None s = s
@@ -251,19 +196,19 @@ kept_standing m f none x k stands =
     ap not (ne_eqb x.file f (λ same. (let husk = not_standing m f x none k same in cc)))
 
 -- an entry that leaves the deeds leaves each cell as it was
-pub seats_after : (m : State) (e : Entry) → Reached m → HasDomains m.objects → Allowed m e → Leaves m e → SameSeats m (after m e)
-seats_after m (Open c f d a) r domains allowed leaves = seats_answered m _ (refusal_in a) (seats_same m _ refl refl)
-seats_after m (Enter c f request a) r domains allowed leaves = seats_answered m _ (refusal_in a) (seats_same m _ refl refl)
-seats_after m (Step c w o found a) r domains allowed leaves =
+pub seats_after : (m : State) (e : Entry) → Reached m → Allowed m e → Leaves m e → SameSeats m (after m e)
+seats_after m (Open c f d a) r allowed leaves = seats_answered m _ (refusal_in a) (seats_same m _ refl refl)
+seats_after m (Enter c f request a) r allowed leaves = seats_answered m _ (refusal_in a) (seats_same m _ refl refl)
+seats_after m (Step c w o found a) r allowed leaves =
     let t = IsTurn-allowed m c w o found a allowed in
     let P : Option InFlight → Type 0 = λ slot. SameSeats m (after_step m c slot w o a) in
-    subst P (sym t.is) (seats_stepped m r domains c t.call t.is w o a t.word leaves)
-seats_after m (Unplug d) r domains allowed leaves = seats_same m (after m (Unplug d)) refl refl
-seats_after m (Tear f by) r domains allowed leaves = seats_same m (after m (Tear f by)) refl refl
-seats_after m (Kill o) r domains allowed leaves = seats_doomed m (after m (Kill o)) o refl refl
-seats_after m (Gone o kept) r domains allowed leaves = absurd leaves
-seats_after m (Dissociated f) r domains allowed leaves = seats_same m (after m (Dissociated f)) refl refl
-seats_after m (Closed f) r domains allowed leaves =
+    subst P (sym t.is) (seats_stepped m r c t.call w o a leaves)
+seats_after m (Unplug d) r allowed leaves = seats_same m (after m (Unplug d)) refl refl
+seats_after m (Tear f by) r allowed leaves = seats_same m (after m (Tear f by)) refl refl
+seats_after m (Kill o) r allowed leaves = seats_doomed m (after m (Kill o)) o refl refl
+seats_after m (Gone o kept) r allowed leaves = absurd leaves
+seats_after m (Dissociated f) r allowed leaves = seats_same m (after m (Dissociated f)) refl refl
+seats_after m (Closed f) r allowed leaves =
     let parts = and_parts (is_closing (phase_of m f)) (is_quiet m f && not (has_standing m f)) allowed.1 in
     let none = not_so (has_standing m f) (and_parts (is_quiet m f) (not (has_standing m f)) parts.1).1 in
-    record { pools = refl; holders = λ k i. holder_filter m.objects (not_in_file f) k i (kept_standing m f none) }
+    record { pools = refl; holders = λ ls k i. holder_filter ls m.objects (not_in_file f) k i (kept_standing m f none) }

@@ -19,15 +19,15 @@ use Rattle.uv_machine.specs.Histories.{Allowed, after, state_of, state_from, IsL
 use Rattle.uv_machine.specs.Reached.{cell_in}
 use Rattle.uv_machine.specs.Laws.{is_of}
 use Rattle.uv_machine.proofs.Reaching.{Reached-state_of}
+use Rattle.uv_machine.specs.Made.{made_by, step_made, new_by}
 use Rattle.uv_graph.specs.declared.out.Out.{Out}
 use Rattle.uv_pool.specs.Deeds.{DeedFacts}
 use Rattle.uv_graph.specs.Dooms.{DoomsNone}
 use Rattle.uv_graph.specs.Kept.{Kept, the_out, out_of, kill_of}
-use Rattle.uv_graph.specs.Lives.{made_by, step_made, new_by, life_in, lives_from, lives_in}
+use Rattle.uv_graph.specs.Lives.{life_in, lives_from, lives_in}
 use Rattle.uv_machine.specs.Logged.{Logged}
 use Rattle.uv_graph.specs.Notes.{Leaves, WordLeaves, HasNoneOut}
-use Rattle.uv_graph.specs.Seats.{Seat, seat_in, seat_of, slot_of, deed_in, seat_place, IsPlaced, IsHeldOrAway, IsAway, IsPoolFor, HasOut, HasKill, AreHandedOut, IsTied}
-use Rattle.uv_graph.proofs.Domains.{legal_domains}
+use Rattle.uv_graph.specs.Seats.{holder_of, Seat, seat_in, seat_of, slot_of, deed_in, seat_place, IsPlaced, IsHeldOrAway, IsAway, IsPoolFor, HasOut, HasKill, AreHandedOut, IsTied}
 use Rattle.uv_graph.proofs.Dooming.{handed_after}
 use Rattle.uv_graph.proofs.Going.{HasOut-after, HasKill-after, releases_it}
 use Rattle.uv_graph.proofs.MachineLaws.{state_goes_on}
@@ -70,7 +70,7 @@ none_made Abort e x y leaves = refl
 none_made Free e x y leaves = refl
 none_made Exit e x y leaves = refl
 
-none_new : (m : State) (e : Entry) → Leaves m e → new_by m e ≡ None
+pub none_new : (m : State) (e : Entry) → Leaves m e → new_by m e ≡ None
 none_new m (Open c f d a) leaves = refl
 none_new m (Enter c f request a) leaves = refl
 none_new m (Step c w o found a) leaves = none_made w (refusal_in a) _ (object_with m o) leaves
@@ -92,10 +92,10 @@ seat_eq m m' h h' k i cells holders lives =
 pub seat_stays : (h : List Entry) (e : Entry) → IsLegal h → Allowed (state_of h) e → Leaves (state_of h) e → (k i : ℕ) → seat_of (h ++ e ∷ []) k i ≡ seat_of h k i
 seat_stays h e legal allowed leaves k i =
     let m = state_of h in
-    let s = seats_after m e (Reached-state_of h legal) (legal_domains h legal) allowed leaves in
+    let s = seats_after m e (Reached-state_of h legal) allowed leaves in
     let P : State → Type 0 = λ n. seat_in n (h ++ e ∷ []) k i ≡ seat_of h k i in
     let lives : lives_in (h ++ e ∷ []) k i ≡ lives_in h k i = lives_go_on h e k i ∙ ap (λ x. lives_in h k i ++ life_in k i x) (none_new m e leaves) ∙ append_none (lives_in h k i) in
-    subst P (sym (state_goes_on h e)) (seat_eq m (after m e) h (h ++ e ∷ []) k i (ap (λ v. cell_in (slice_get v k) i) s.pools) (s.holders k i) lives)
+    subst P (sym (state_goes_on h e)) (seat_eq m (after m e) h (h ++ e ∷ []) k i (ap (λ v. cell_in (slice_get v k) i) s.pools) (ap (λ ls. holder_of ls (after m e).objects k i) lives ∙ s.holders (lives_in h k i) k i) lives)
 
 -- The deeds that are out.
 
@@ -162,7 +162,7 @@ tied_more {D} tell log log' k k' pools held e t allowed leaves none dooms more l
     let m = state_of h in
     let r = Reached-state_of h t.legal in
     let now : state_of log'.history ≡ after m e = ap state_of more ∙ state_goes_on h e in
-    let same = seats_after m e r (legal_domains h t.legal) allowed leaves in
+    let same = seats_after m e r allowed leaves in
     record {
       history = history;
       legal = legal;
@@ -184,7 +184,7 @@ tied_more {D} tell log log' k k' pools held e t allowed leaves none dooms more l
           out_now h log'.history e c out more (HasOut-after m e c out r allowed (not_own k m e c out allowed none o before) o));
       kills = λ b out is. (
           let before : kill_of k b ≡ Some out = sym (ap (λ v. the_out (slice_get v b)) kills) ∙ is in
-          kill_now h log'.history e b out more (HasKill-after m e b out r allowed (not_releases m e out.object leaves) (t.kills b out before)));
+          kill_now h log'.history e b out more (HasKill-after m e b out r allowed (not_releases m e out.identity.id leaves) (t.kills b out before)));
       handed = (let P : State → Type 0 = λ s. AreHandedOut k' s.objects in subst P (sym now) (λ x i d. away_as k k' _ _ _ outs kills (handed_after k m r t.handed e dooms x i d)));
     }
 

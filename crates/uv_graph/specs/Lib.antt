@@ -1,5 +1,7 @@
+pub mod Answers
 pub mod Begins
 pub mod Calls
+pub mod Conditions
 pub mod Deeds
 pub mod Dooms
 pub mod Hands

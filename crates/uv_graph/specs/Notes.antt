@@ -13,6 +13,7 @@ use Rattle.uv_machine.specs.States.{object_with}
 use Rattle.uv_machine.specs.Effects.{refusal_in}
 use Rattle.uv_graph.specs.declared.out.Out.{Out}
 use Rattle.uv_graph.specs.Kept.{Kept, out_of, spare_of, put_out, one_less}
+use Rattle.uv_graph.specs.Owns.{own_of, TearsNone}
 
 -- one more entry, and nothing else
 pub record Notes (old new : Kept) (e : Entry) : Type 0 where
@@ -79,13 +80,13 @@ Leaves m (Gone o kept) = ⊥
 Leaves m (Dissociated f) = Unit {0}
 Leaves m (Closed f) = Unit {0}
 
--- the call that makes the step has no deed out
+-- the call that makes the step has no deed out, and who begins to tear a file down is tearing none
 abbrev pub HasNoneOut : Kept → Entry → Type 0
 HasNoneOut k (Open c f d a) = Unit {0}
 HasNoneOut k (Enter c f request a) = Unit {0}
 HasNoneOut k (Step c w o found a) = out_of k c ≡ None
 HasNoneOut k (Unplug d) = Unit {0}
-HasNoneOut k (Tear f by) = Unit {0}
+HasNoneOut k (Tear f by) = TearsNone (own_of k by)
 HasNoneOut k (Kill o) = Unit {0}
 HasNoneOut k (Gone o kept) = Unit {0}
 HasNoneOut k (Dissociated f) = Unit {0}

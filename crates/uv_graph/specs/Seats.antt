@@ -1,6 +1,7 @@
 -- What a history says of a cell, and where the cell's deed then is.
 use Rattle.std.specs.Prelude.{ℕ, Bool, true, false, not, ◌&&◌, ◌≡◌, ◌⊎◌, ◌<◌, ◌≤◌, ◌+◌, ◌*◌, List, Option, None, Some, find, option_map, slice_get, sum, length}
 use Rattle.uv_num.specs.declared.identity.Identity.{Identity}
+use Rattle.uv_num.specs.declared.ids.Ids.{Ids}
 use Rattle.uv_num.specs.declared.limits.TheConstants.{ACTOR_PLACES, CELLS, KINDS}
 use Rattle.uv_num.specs.Kind.{kind_place}
 use Rattle.uv_pool.specs.declared.deed.Life.{Life}
@@ -19,19 +20,20 @@ use Rattle.uv_machine.specs.Plans.{next_word}
 use Rattle.uv_machine.specs.States.{call_of, object_with, phase_of, is_quiet}
 use Rattle.uv_machine.specs.Histories.{state_of, IsLegal}
 use Rattle.uv_machine.specs.Reached.{IsIn, cell_in}
+use Rattle.uv_machine.specs.Made.{is_at}
 use Rattle.uv_graph.specs.declared.out.Out.{Out}
 use Rattle.uv_pool.specs.Deeds.{DeedFacts, TellsLives}
 use Rattle.uv_graph.specs.Kept.{Kept, out_of, kill_of}
-use Rattle.uv_graph.specs.Lives.{identity_of, is_at, lives_in}
+use Rattle.uv_graph.specs.Lives.{known_in, last_uses, lives_in, lives_out}
 use Rattle.uv_machine.specs.Logged.{Logged}
 
 -- the object stands in this cell: it isn't a husk
 abbrev pub stands_at : ℕ → ℕ → Object → Bool
 stands_at k i x = is_at k i x && not (is_husk x.phase)
 
--- who holds the cell
-abbrev pub holder_of : List Object → ℕ → ℕ → Option Identity
-holder_of objects k i = option_map identity_of (find (stands_at k i) objects)
+-- who holds the cell, which has these lives
+abbrev pub holder_of : List Life → List Object → ℕ → ℕ → Option Identity
+holder_of lives objects k i = option_map (known_in lives) (find (stands_at k i) objects)
 
 -- what a history says of a cell: its generation and whether it is home, who holds it, and its lives
 pub record Seat : Type 0 where
@@ -40,7 +42,7 @@ pub record Seat : Type 0 where
   pub lives : List Life
 
 abbrev pub seat_in : State → List Entry → ℕ → ℕ → Seat
-seat_in m h k i = record { cell = cell_in (slice_get m.pools k) i; holder = holder_of m.objects k i; lives = lives_in h k i }
+seat_in m h k i = record { cell = cell_in (slice_get m.pools k) i; holder = holder_of (lives_in h k i) m.objects k i; lives = lives_in h k i }
 
 abbrev pub seat_of : List Entry → ℕ → ℕ → Seat
 seat_of h k i = seat_in (state_of h) h k i
@@ -73,9 +75,9 @@ pub record IsAway (kept : Kept) (k i o : ℕ) : Type 0 where
   pub actor : ℕ
   pub out : Out
   pub named : (out_of kept actor ≡ Some out) ⊎ (kill_of kept actor ≡ Some out)
-  pub kind : kind_place out.kind ≡ k
+  pub kind : kind_place out.identity.kind ≡ k
   pub index : out.index ≡ i
-  pub object : out.object ≡ o
+  pub object : out.identity.id ≡ o
 
 pub record IsUnheld (slot : Option DeedFacts) (k i : ℕ) (s : Seat) : Type 0 where
   pub deed : DeedFacts
@@ -91,9 +93,11 @@ abbrev pub IsPlaced : Kept → Option DeedFacts → Option DeedFacts → ℕ →
 IsPlaced kept pooled held k i s None = IsUnheld pooled k i s × (held ≡ None)
 IsPlaced kept pooled held k i s (Some holder) = (pooled ≡ None) × IsHeldOrAway kept held k i s holder
 
--- an object is the one that a deed is out for
+-- an object is the one that a deed is out for; what it used when it was made is told by its cell's lives
 pub record IsFor (out : Out) (x : Object) : Type 0 where
-  pub kind : x.kind ≡ out.kind
+  pub id : x.id ≡ out.identity.id
+  pub kind : x.kind ≡ out.identity.kind
+  pub request : x.request ≡ out.identity.request
   pub index : x.index ≡ out.index
   pub generation : x.generation ≡ out.generation
 
@@ -115,17 +119,17 @@ is_giving Exit = false
 pub record HasOut (m : State) (c : ℕ) (out : Out) : Type 0 where
   pub call : InFlight
   pub is : call_of m c ≡ Some call
-  pub locked : call.locked ≡ Some out.object
+  pub locked : call.locked ≡ Some out.identity.id
   pub word : is_giving (next_word call) ≡ true
   pub item : Object
-  pub there : object_with m out.object ≡ Some item
+  pub there : object_with m out.identity.id ≡ Some item
   pub same : IsFor out item
   pub phase : (is_made item.phase ≡ true) ⊎ (is_doomed item.phase ≡ true)
 
 -- a teardown has a deed out for an object that it has doomed
 pub record HasKill (m : State) (b : ℕ) (out : Out) : Type 0 where
   pub item : Object
-  pub there : object_with m out.object ≡ Some item
+  pub there : object_with m out.identity.id ≡ Some item
   pub same : IsFor out item
   pub phase : is_doomed item.phase ≡ true
   pub torn : phase_of m item.file ≡ Tearing b
@@ -172,3 +176,22 @@ pub record IsTied {D : Type 0} (tell : D → DeedFacts) (log : Logged) (kept : K
   pub outs : (c : ℕ) (out : Out) → out_of kept c ≡ Some out → HasOut (state_of log.history) c out
   pub kills : (b : ℕ) (out : Out) → kill_of kept b ≡ Some out → HasKill (state_of log.history) b out
   pub handed : AreHandedOut kept (state_of log.history).objects
+
+-- an actor tears one file at most
+abbrev pub TearsOnce : State → Type 0
+TearsOnce m = (b f g : ℕ) → phase_of m f ≡ Tearing b → phase_of m g ≡ Tearing b → f ≡ g
+
+-- what is out for an object says what that used when it was made
+abbrev pub AreKnown : Kept → List Entry → Type 0
+AreKnown kept h = (a : ℕ) (out : Out) → (out_of kept a ≡ Some out) ⊎ (kill_of kept a ≡ Some out) → out.identity.uses ≡ last_uses (lives_out h (Some out))
+
+-- for each cell it is stored what its last object used when it was made
+abbrev pub StoresUses : List Ids → List Entry → Type 0
+StoresUses uses h = (k i : ℕ) → k < KINDS → i < CELLS → slice_get uses (seat_place k i) ≡ Some (last_uses (lives_in h k i))
+
+-- what is true of a graph
+pub record IsWhole {D : Type 0} (tell : D → DeedFacts) (log : Logged) (kept : Kept) (pools : List (Homes D)) (held : List (Option D)) (uses : List Ids) : Type 0 where
+  pub tied : IsTied tell log kept pools held
+  pub once : TearsOnce (state_of log.history)
+  pub known : AreKnown kept log.history
+  pub stored : StoresUses uses log.history

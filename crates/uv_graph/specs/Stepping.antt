@@ -13,7 +13,8 @@ use Rattle.uv_machine.specs.Histories.{state_of}
 use Rattle.uv_graph.specs.declared.told.Progress.{Progress}
 use Rattle.uv_graph.specs.declared.told.Progress.TheVariants as progress
 use Rattle.uv_graph.specs.Kept.{Kept, out_of}
-use Rattle.uv_graph.specs.Turns.{IsClient, IsNextOf, goes_plain, is_exit}
+use Rattle.uv_graph.specs.Conditions.{IsClient}
+use Rattle.uv_graph.specs.Turns.{IsNextOf, goes_plain, is_exit}
 
 -- a client's call is in flight, this is the word of its next step, and its deed, if it has one, isn't out
 pub record IsAt (k : Kept) (c : ℕ) (call : InFlight) (w : Word) : Type 0 where

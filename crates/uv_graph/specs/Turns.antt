@@ -1,16 +1,11 @@
 -- What the calls of the core come to: a step of a call, an open, an enter, and the turns of a teardown.
-use Rattle.std.specs.Prelude.{ℕ, Bool, true, false, not, ◌≡◌, ◌≢◌, ◌≤◌, ◌<◌, ◌⊎◌, ◌==◌, ◌&&◌, Option, None, Some, is_some, Result, Ok, Err, position, unwrap_or, if◌then◌else◌}
+use Rattle.std.specs.Prelude.{ℕ, Bool, true, false, ◌≡◌, ◌<◌, ◌⊎◌, ◌==◌, Option, None, Some, Result, Ok, Err, unwrap_or, if◌then◌else◌}
 use Rattle.uv_num.specs.declared.errno.Errno.{Errno}
-use Rattle.uv_num.specs.declared.errno.Errno.TheVariants.{BadF, NoMem}
+use Rattle.uv_num.specs.declared.errno.Errno.TheVariants.{BadF, Io, NoMem}
 use Rattle.uv_num.specs.declared.kind.Kind.{Kind}
-use Rattle.uv_num.specs.declared.limits.TheConstants.{CLIENTS, DRIVER}
+use Rattle.uv_num.specs.declared.limits.TheConstants.{DRIVER}
 use Rattle.uv_num.specs.declared.qp.QpState.{QpState}
-use Rattle.uv_num.specs.declared.request.Act as request
-use Rattle.uv_num.specs.declared.request.Act.TheVariants.{Modify, Query, Bind, Unbind, Async}
 use Rattle.uv_num.specs.declared.request.Request.{Request}
-use Rattle.uv_num.specs.declared.request.Role.{Role}
-use Rattle.uv_num.specs.declared.request.Role.TheVariants.{Creates, Destroys, Acts}
-use Rattle.uv_num.specs.Request.{role_of}
 use Rattle.uv_machine.specs.declared.call.InFlight.{InFlight}
 use Rattle.uv_machine.specs.declared.entry.Answer.{Answer}
 use Rattle.uv_machine.specs.declared.entry.Answer.TheVariants as answer
@@ -24,8 +19,8 @@ use Rattle.uv_machine.specs.declared.file.FilePhase.TheVariants as file
 use Rattle.uv_machine.specs.declared.object.Object.{Object}
 use Rattle.uv_machine.specs.declared.state.State.{State}
 use Rattle.uv_machine.specs.Objects.{is_husk}
-use Rattle.uv_machine.specs.Plans.{next_word, acted_on}
-use Rattle.uv_machine.specs.States.{call_of, object_with, phase_of, device_of, newest_free}
+use Rattle.uv_machine.specs.Plans.{acted_on}
+use Rattle.uv_machine.specs.States.{call_of, object_with, phase_of, device_of, is_unplugged, newest_free}
 use Rattle.uv_machine.specs.Steps.{next_of}
 use Rattle.uv_machine.specs.Effects.{refusal_in}
 use Rattle.uv_machine.specs.Outside.{MayAnswer, open_refusal, enter_refusal}
@@ -39,70 +34,13 @@ use Rattle.uv_graph.specs.declared.told.Torn.TheVariants as torn
 use Rattle.uv_graph.specs.declared.out.Out.{Out}
 use Rattle.uv_graph.specs.Calls.{calls_on}
 use Rattle.uv_pool.specs.Deeds.{DeedFacts}
-use Rattle.uv_graph.specs.Hands.{HandsNew, HandsPlanted, HandsKilled, ComesBuried}
-use Rattle.uv_graph.specs.Kept.{Kept, out_of, kill_of}
-use Rattle.uv_graph.specs.Notes.{Notes, NotesOut, NotesKill, NotesSpared, NotesOrSpares, IsDry}
-use Rattle.uv_graph.specs.Owns.{tears_it}
-
--- Who calls.
-
-abbrev pub IsClient : ℕ → Type 0
-IsClient c = (1 ≤ c) × (c ≤ CLIENTS)
-
-abbrev pub is_create : Role → Bool
-is_create (Creates kind) = true
-is_create (Destroys asked) = false
-is_create (Acts act) = false
-
-abbrev pub is_destroy : Role → Bool
-is_destroy (Creates kind) = false
-is_destroy (Destroys asked) = true
-is_destroy (Acts act) = false
-
-abbrev pub is_act : Role → Bool
-is_act (Creates kind) = false
-is_act (Destroys asked) = false
-is_act (Acts act) = true
-
--- a client's call of this sort may make its next step: it is in flight, and its deed, if it has one, isn't out
-pub record IsReady (does : Role → Bool) (k : Kept) (c : ℕ) : Type 0 where
-  pub client : IsClient c
-  pub call : InFlight
-  pub is : call_of (state_of k.history) c ≡ Some call
-  pub does_it : does (role_of call.request) ≡ true
-  pub none : out_of k c ≡ None
+use Rattle.uv_graph.specs.Conditions.{awaits}
+use Rattle.uv_graph.specs.Hands.{HandsNew, HandsPlanted, HandsKilled}
+use Rattle.uv_graph.specs.Kept.{Kept, kill_of}
+use Rattle.uv_graph.specs.Notes.{Notes, NotesOut, NotesKill, NotesOrSpares, IsDry}
+use Rattle.uv_graph.specs.Owns.{own_of, TearsNone}
 
 -- A step of a call.
-
--- the act is about what a cell holds, and its state is told from outside
-abbrev pub touches : request.Act → Bool
-touches (Modify to attrs) = true
-touches Query = true
-touches (Bind offset length access) = true
-touches (Unbind offset length access) = true
-touches Async = false
-
-abbrev pub role_touches : Role → Bool
-role_touches (Creates kind) = false
-role_touches (Destroys asked) = false
-role_touches (Acts act) = touches act
-
-abbrev pub touches_at : Role → Word → Bool
-touches_at role Reserve = false
-touches_at role Look = false
-touches_at role Make = false
-touches_at role Commit = false
-touches_at role Act = role_touches role
-touches_at role Lock = false
-touches_at role Check = false
-touches_at role Finish = false
-touches_at role Abort = false
-touches_at role Free = false
-touches_at role Exit = false
-
--- the call's next step is such an act
-abbrev pub awaits : InFlight → Bool
-awaits call = touches_at (role_of call.request) (next_word call)
 
 abbrev pub is_husk_object : Option Object → Bool
 is_husk_object None = false
@@ -212,29 +150,7 @@ StepGives tell old new c (progress.Touch kind index generation) = TouchesCell ol
 StepGives tell old new c (progress.Retire deed object kind) = RetiresFor old new c (tell deed) object kind
 StepGives tell old new c (progress.Ended a) = EndsWith old new c a
 
--- The act behind a touch.
-
--- the act looks at a state of a queue pair
-abbrev pub act_finds : request.Act → Bool
-act_finds (Modify to attrs) = true
-act_finds Query = true
-act_finds (Bind offset length access) = false
-act_finds (Unbind offset length access) = false
-act_finds Async = false
-
-abbrev pub role_finds : Role → Bool
-role_finds (Creates kind) = false
-role_finds (Destroys asked) = false
-role_finds (Acts act) = act_finds act
-
--- a client's call is about to act on a cell, whose state is told where the act looks at one
-pub record IsTouching (k : Kept) (c : ℕ) (found : Option QpState) : Type 0 where
-  pub client : IsClient c
-  pub call : InFlight
-  pub is : call_of (state_of k.history) c ≡ Some call
-  pub awaits_it : awaits call ≡ true
-  pub finds : is_some found ≡ role_finds (role_of call.request)
-  pub none : out_of k c ≡ None
+-- The act after a touch.
 
 pub record ActsBy (old new : Kept) (c : ℕ) (found : Option QpState) (a : Answer) : Type 0 where
   pub done : CallStep
@@ -242,16 +158,7 @@ pub record ActsBy (old new : Kept) (c : ℕ) (found : Option QpState) (a : Answe
   pub answer_is : done.answer ≡ a
   pub notes : Notes old new (step_entry c done)
 
--- The finish behind a retirement.
-
--- a client's call has a deed out and is about to finish its object, and the deed comes back buried
-pub record IsFinishing (k : Kept) (c : ℕ) (t : DeedFacts) : Type 0 where
-  pub client : IsClient c
-  pub call : InFlight
-  pub is : call_of (state_of k.history) c ≡ Some call
-  pub word : next_word call ≡ Finish
-  pub object : ℕ
-  pub comes : ComesBuried (out_of k c) object t k.history
+-- The finish after a retirement.
 
 pub record FinishesBy (old new : Kept) (c kept : ℕ) : Type 0 where
   pub done : CallStep
@@ -295,9 +202,19 @@ refusal_without refusal = unwrap_or refusal NoMem
 
 -- Teardown.
 
--- an actor is tearing no file down
-abbrev pub TearsNone : Kept → ℕ → Type 0
-TearsNone k by = position (tears_it by) (state_of k.history).files ≡ None
+-- a device is pulled once
+pub record IsPulled (old new : Kept) (d : ℕ) : Type 0 where
+  pub plugged : is_unplugged (state_of old.history) d ≡ false
+  pub notes : Notes old new (entry.Unplug d)
+
+pub record WasPulled (old new : Kept) (d : ℕ) (e : Errno) : Type 0 where
+  pub unplugged : is_unplugged (state_of old.history) d ≡ true
+  pub gone : e ≡ Io
+  pub same : new ≡ old
+
+abbrev pub UnplugGives : Kept → Kept → ℕ → Result (Unit {0}) Errno → Type 0
+UnplugGives old new d (Ok u) = IsPulled old new d
+UnplugGives old new d (Err e) = WasPulled old new d e
 
 -- what a close of a file in this phase comes to
 abbrev pub close_of : FilePhase → Torn
@@ -324,19 +241,12 @@ TearGives old new f by torn.Began = Notes old new (entry.Tear f by)
 TearGives old new f by (torn.NotYet actor) = new ≡ old
 TearGives old new f by (torn.Refused errno) = new ≡ old
 
--- an actor is tearing the file down and has no deed of it out
-pub record IsSweeper (k : Kept) (by f : ℕ) : Type 0 where
-  pub tearing : phase_of (state_of k.history) f ≡ file.Tearing by
-  pub none : kill_of k by ≡ None
-
 pub record KillsNext (old new : Kept) (by f : ℕ) (t : DeedFacts) (o : ℕ) (kind : Kind) (handle : ℕ) : Type 0 where
   pub quiet : calls_on (state_of old.history) f ≡ 0
-  pub item : Object
-  pub newest : newest_free (state_of old.history) f ≡ Some item
-  pub id : item.id ≡ o
   pub hands : HandsKilled old new (entry.Kill o) by o t
-  pub of_kind : item.kind ≡ kind
-  pub handle_is : item.handle ≡ handle
+  pub newest : newest_free (state_of old.history) f ≡ Some hands.item
+  pub of_kind : hands.item.kind ≡ kind
+  pub handle_is : hands.item.handle ≡ handle
 
 -- the entry that ends a teardown
 abbrev pub last_entry : ℕ → ℕ → Entry
@@ -346,6 +256,7 @@ pub record SweepsOut (old new : Kept) (by f : ℕ) : Type 0 where
   pub quiet : calls_on (state_of old.history) f ≡ 0
   pub nothing : newest_free (state_of old.history) f ≡ None
   pub notes : Notes old new (last_entry by f)
+  pub torn : TearsNone (own_of new by)
 
 pub record WaitsFor (old new : Kept) (f n : ℕ) : Type 0 where
   pub some : 0 < n
@@ -357,13 +268,7 @@ SweepGives tell old new by f (swept.Kill deed object kind handle) = KillsNext ol
 SweepGives tell old new by f swept.Done = SweepsOut old new by f
 SweepGives tell old new by f (swept.NotYet n) = WaitsFor old new f n
 
--- the deed that the teardown has out comes back buried
-pub record IsReleasing (k : Kept) (by f : ℕ) (t : DeedFacts) : Type 0 where
-  pub tearing : phase_of (state_of k.history) f ≡ file.Tearing by
-  pub object : ℕ
-  pub comes : ComesBuried (kill_of k by) object t k.history
-
 pub record ReleasesBy (old new : Kept) (by kept : ℕ) : Type 0 where
   pub out : Out
   pub was : kill_of old by ≡ Some out
-  pub notes : NotesKill old new (entry.Gone out.object kept) by None
+  pub notes : NotesKill old new (entry.Gone out.identity.id kept) by None

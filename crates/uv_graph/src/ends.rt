@@ -5,13 +5,14 @@ ghost use Rattle.uv_num.specs.declared.limits.TheConstants.{CELLS, KINDS};
 ghost use Rattle.uv_machine.specs.Laws.{IsIdle};
 ghost use Rattle.uv_machine.specs.Histories.{IsLegal, state_of};
 ghost use Rattle.uv_pool.specs.Filled.{AreNewPools};
-ghost use Rattle.uv_graph.specs.Hands.{AreHomePools, AreOver};
-ghost use Rattle.uv_graph.specs.Begins.{IsFresh, HoldsNone};
+ghost use Rattle.uv_machine.specs.Files.{AreOver};
+ghost use Rattle.uv_graph.specs.Hands.{AreHomePools};
+ghost use Rattle.uv_graph.specs.Begins.{IsFresh, HoldsNone, UsesNone};
 
 use crate::graph::Graph;
 use std::alloc::{AllocError, Global};
 use uv_machine::{Entry, Log};
-use uv_num::{ACTOR_PLACES, CELLS, CLIENTS, KINDS, List, SCRIPT_LINES};
+use uv_num::{ACTOR_PLACES, CELLS, CLIENTS, Ids, KINDS, List, SCRIPT_LINES};
 use uv_pool::{Deed, Pool};
 
 /// The refused entries of a client that a new graph has room for: as many as a script has lines.
@@ -37,6 +38,18 @@ fn none_held<D: Deed>(alloc: Global) -> Result<List<Option<D>>, AllocError>
     Ok(held)
 }
 
+/// Nothing that objects used: none was made.
+fn none_used(alloc: Global) -> Result<List<Ids>, AllocError>
+    ensures size { IfOk result (λ u. length u ≡ KINDS * CELLS) }
+    ensures none { IfOk result (λ u. UsesNone u) }
+{
+    let mut uses = List::new(alloc);
+    for _turn in 0..KINDS * CELLS {
+        uses.push(Ids::Empty)?;
+    }
+    Ok(uses)
+}
+
 impl<D: Deed> Graph<D> {
     /// The graph in which nothing has happened, with room for both devices to be pulled and for `SPARES` refused entries
     /// of each client.
@@ -47,6 +60,7 @@ impl<D: Deed> Graph<D> {
         let mut log = Log::new(alloc)?;
         log.widen(ALL_SPARES)?;
         let held = none_held(alloc)?;
+        let uses = none_used(alloc)?;
         Ok(Graph {
             log,
             spares: FIRST_SPARES,
@@ -54,6 +68,7 @@ impl<D: Deed> Graph<D> {
             kills: [None; ACTOR_PLACES],
             pools,
             held,
+            uses,
         })
     }
 

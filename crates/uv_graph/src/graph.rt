@@ -9,7 +9,7 @@ use crate::counts::count_on;
 use crate::out::Out;
 use std::marker::Model;
 use uv_machine::{FilePhase, InFlight, Log, Object, Readers};
-use uv_num::{ACTOR_PLACES, Kind, List};
+use uv_num::{ACTOR_PLACES, Ids, Kind, List};
 use uv_pool::{Deed, Pool};
 
 /// The object graph with its stored history and the deeds of its cells. Contracts see the history, of which the state
@@ -27,17 +27,19 @@ pub struct Graph<D: Deed + Drop> {
     pub(crate) pools: List<Pool<D>>,
     /// By kind and cell, the deeds that are planted.
     pub(crate) held: List<Option<D>>,
+    /// By kind and cell, what the object that was last made in it used then.
+    pub(crate) uses: List<Ids>,
 }
 
 impl<D: Deed + Drop> Model for Graph<D> {
     ghost use Rattle.uv_graph.specs.Kept.{Kept};
-    ghost use Rattle.uv_graph.specs.Seats.{IsTied};
+    ghost use Rattle.uv_graph.specs.Seats.{IsWhole};
 
     ghost Value = { Kept };
 
     ghost view = { λ g. record { history = g.log.history; spares = g.spares; outs = g.outs; kills = g.kills } };
 
-    ghost invariant = { λ g. IsTied D.facts g.log (record { history = g.log.history; spares = g.spares; outs = g.outs; kills = g.kills }) g.pools g.held };
+    ghost invariant = { λ g. IsWhole D.facts g.log (record { history = g.log.history; spares = g.spares; outs = g.outs; kills = g.kills }) g.pools g.held g.uses };
 }
 
 impl<D: Deed + Drop> Readers for Graph<D> {

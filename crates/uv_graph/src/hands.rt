@@ -8,26 +8,27 @@ ghost use Rattle.uv_machine.specs.declared.entry.Answer.TheVariants as answer;
 ghost use Rattle.uv_machine.specs.States.{object_with};
 ghost use Rattle.uv_machine.specs.Histories.{Allowed, IsLegal, state_of};
 ghost use Rattle.uv_graph.specs.Deeds.{out_for};
-ghost use Rattle.uv_graph.specs.Hands.{HandsNew, HandsPlanted, HandsKilled, ComesPlanted, ComesBuried, is_live_object};
+ghost use Rattle.uv_graph.specs.Conditions.{ComesPlanted};
+ghost use Rattle.uv_graph.specs.Hands.{HandsNew, HandsPlanted, HandsKilled, ComesBuried, is_live_object};
 ghost use Rattle.uv_graph.specs.Kept.{out_of, kill_of};
 ghost use Rattle.uv_graph.specs.Notes.{NotesOut, NotesKill, HasNoOut};
-ghost use Rattle.uv_graph.specs.Owns.{torn_by_object};
+ghost use Rattle.uv_graph.specs.Owns.{own_of, torn_by_object};
 ghost use Rattle.uv_graph.specs.Seats.{seat_place};
 
 use crate::graph::Graph;
+use crate::identity::as_made;
 use crate::out::Out;
 use crate::slots;
 use uv_machine::{Answer, Entry, Object, Readers, Word};
-use uv_num::{CELLS, Kind};
+use uv_num::{CELLS, Ids, Kind};
 use uv_pool::Deed;
 
-/// What an actor has in its hands of an object's.
-fn out_for(x: Object) -> Out
-    ensures { result ≡ out_for x }
+/// What an actor has in its hands of an object's that used these when it was made.
+fn out_for(x: Object, uses: Ids) -> Out
+    ensures { result ≡ out_for uses x }
 {
     Out {
-        object: x.id,
-        kind: x.kind,
+        identity: as_made(x, uses),
         index: x.index,
         generation: x.generation,
     }
@@ -60,7 +61,8 @@ impl<D: Deed> Graph<D> {
         match made {
             None => unreachable!(),
             Some(x) => {
-                slots::set_out(&mut self.outs, client as usize, Some(out_for(x)));
+                slots::set_uses(&mut self.uses, seat_place(x.kind, x.index), x.uses);
+                slots::set_out(&mut self.outs, client as usize, Some(out_for(x, x.uses)));
                 match slots::draw(&mut self.pools, x.kind.place()) {
                     None => unreachable!(),
                     Some(deed) => deed,
@@ -71,7 +73,7 @@ impl<D: Deed> Graph<D> {
 
     /// Takes the deed back that `make` handed out, now planted for the call's object. It makes no entry.
     pub fn planted(&mut self, client: u32, deed: D)
-        requires { ComesPlanted self.old client (D.facts deed) }
+        requires { ComesPlanted (own_of self.old client) (D.facts deed) }
         ensures same { HasNoOut self.old self.new client }
         ensures legal { IsLegal self.new.history }
     {
@@ -100,8 +102,10 @@ impl<D: Deed> Graph<D> {
         match found {
             None => unreachable!(),
             Some(x) => {
-                slots::set_out(&mut self.outs, client as usize, Some(out_for(x)));
-                match slots::take(&mut self.held, seat_place(x.kind, x.index)) {
+                let place = seat_place(x.kind, x.index);
+                let uses = slots::uses_at(&self.uses, place);
+                slots::set_out(&mut self.outs, client as usize, Some(out_for(x, uses)));
+                match slots::take(&mut self.held, place) {
                     None => unreachable!(),
                     Some(deed) => deed,
                 }
@@ -113,7 +117,7 @@ impl<D: Deed> Graph<D> {
     /// out. So many actions stand in what the object leaves.
     pub fn finish(&mut self, client: u32, object: u32, deed: D, kept: u64)
         requires allowed { Allowed (state_of self.old.history) (entry.Step client word.Finish object None (answer.Kept kept)) }
-        requires buried { ComesBuried (out_of self.old client) object (D.facts deed) self.old.history }
+        requires buried { ComesBuried (own_of self.old client).out (own_of self.old client).out_lives object (D.facts deed) }
         ensures notes { NotesOut self.old self.new (entry.Step client word.Finish object None (answer.Kept kept)) client None }
         ensures legal { IsLegal self.new.history }
     {
@@ -144,8 +148,10 @@ impl<D: Deed> Graph<D> {
         match found {
             None => unreachable!(),
             Some(x) => {
-                slots::set_out(&mut self.kills, by as usize, Some(out_for(x)));
-                match slots::take(&mut self.held, seat_place(x.kind, x.index)) {
+                let place = seat_place(x.kind, x.index);
+                let uses = slots::uses_at(&self.uses, place);
+                slots::set_out(&mut self.kills, by as usize, Some(out_for(x, uses)));
+                match slots::take(&mut self.held, place) {
                     None => unreachable!(),
                     Some(deed) => deed,
                 }
@@ -157,7 +163,7 @@ impl<D: Deed> Graph<D> {
     /// in what the object leaves.
     pub fn gone(&mut self, by: u32, object: u32, deed: D, kept: u64)
         requires allowed { Allowed (state_of self.old.history) (entry.Gone object kept) }
-        requires buried { ComesBuried (kill_of self.old by) object (D.facts deed) self.old.history }
+        requires buried { ComesBuried (own_of self.old by).kill (own_of self.old by).kill_lives object (D.facts deed) }
         ensures notes { NotesKill self.old self.new (entry.Gone object kept) by None }
         ensures legal { IsLegal self.new.history }
     {

@@ -1,28 +1,27 @@
 //! What an object is known by.
 
 ghost use Rattle.std.specs.Prelude.{◌≡◌};
-ghost use Rattle.uv_graph.specs.Lives.{first_uses, identity_of};
+ghost use Rattle.uv_graph.specs.Lives.{as_made, identity_of};
 
 use uv_machine::Object;
-use uv_num::{Identity, Ids, Kind};
+use uv_num::{Identity, Ids};
 
-fn first_uses(kind: Kind, uses: Ids) -> Ids
-    ensures { result ≡ first_uses kind uses }
-{
-    match kind {
-        Kind::Mw => uses.first_alone(),
-        Kind::Pd | Kind::Channel | Kind::Cq | Kind::Qp | Kind::Srq | Kind::Ah | Kind::Mr => uses,
-    }
-}
-
-/// What an object is known by: what its cell is planted for. This project's own.
-pub fn identity_of(x: Object) -> Identity
-    ensures { result ≡ identity_of x }
+/// What an object is known by that used these when it was made. This project's own.
+pub(crate) fn as_made(x: Object, uses: Ids) -> Identity
+    ensures { result ≡ as_made uses x }
 {
     Identity {
         id: x.id,
         kind: x.kind,
         request: x.request,
-        uses: first_uses(x.kind, x.uses),
+        uses,
     }
+}
+
+/// What a new object is known by: what its cell is planted for. Whatever the object uses later, it stays known so. This
+/// project's own.
+pub fn identity_of(x: Object) -> Identity
+    ensures { result ≡ identity_of x }
+{
+    as_made(x, x.uses)
 }

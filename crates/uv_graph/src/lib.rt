@@ -20,7 +20,7 @@ mod told;
 pub use ends::SPARES;
 pub use graph::Graph;
 pub use identity::identity_of;
-pub use laws::own_stands_apart;
+pub use laws::{names_its_actor, own_stands_apart};
 pub use out::{Out, Own};
 pub use told::{Progress, Swept, Torn};
 

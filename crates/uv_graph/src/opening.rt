@@ -13,20 +13,30 @@ ghost use Rattle.uv_graph.specs.Notes.{Notes, NotesSpared, IsNotedOrDry, Leaves,
 use crate::graph::Graph;
 use std::alloc::AllocError;
 use uv_machine::{Answer, Entry, owed_by};
-use uv_num::{Errno, Request};
+use uv_num::{Changes, Errno, Request, change_at};
 use uv_pool::Deed;
 
 /// The entries of an open, and of the ends of the file that it opens: its tear by the driver and the end of that, and its
 /// tear and its close.
 const OPEN_COSTS: usize = 5;
 
+/// One less of what is set aside.
+#[derive(Drop)]
+struct OneLess;
+
+impl Changes<u32> for OneLess {
+    ghost changed = { λ _ n. one_less n };
+
+    fn change(self, spare: &mut u32) {
+        *spare = spare.saturating_sub(1);
+    }
+}
+
 /// One less is set aside at a place.
 fn spend(spares: &mut [u32], at: usize)
     ensures { spares.new ≡ at_place spares.old at one_less }
 {
-    if at < spares.len() && spares[at] > 0 {
-        spares[at] -= 1;
-    }
+    change_at(spares, at, OneLess);
 }
 
 impl<D: Deed> Graph<D> {

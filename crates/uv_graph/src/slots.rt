@@ -1,14 +1,15 @@
 //! The places where deeds and what is out of them stand.
 
-ghost use Rattle.std.specs.Prelude.{◌≡◌, None, Some, slice_get};
+ghost use Rattle.std.specs.Prelude.{◌≡◌, None, Some, slice_get, unwrap_or};
 ghost use Rattle.uv_num.specs.Place.{at_place};
+ghost use Rattle.uv_machine.specs.Objects.{no_ids};
 ghost use Rattle.uv_pool.specs.Homes.{Homes, IsOutOf, brought};
 ghost use Rattle.uv_graph.specs.Kept.{put_out};
 ghost use Rattle.uv_graph.specs.Seats.{slot_of};
-ghost use Rattle.uv_graph.specs.Slots.{next_deed, after_draw, put_slot};
+ghost use Rattle.uv_graph.specs.Slots.{next_deed, after_draw, put_slot, put_uses};
 
 use crate::out::Out;
-use uv_num::{List, Put, change_at};
+use uv_num::{Ids, List, Put, change_at};
 use uv_pool::{Deed, Pool};
 
 /// What an actor has out is this from now on.
@@ -16,6 +17,23 @@ pub fn set_out(outs: &mut [Option<Out>], at: usize, out: Option<Out>)
     ensures { outs.new ≡ at_place outs.old at (put_out out) }
 {
     change_at(outs, at, Put(out));
+}
+
+/// What the object made last at a place used then.
+pub fn uses_at(uses: &List<Ids>, at: usize) -> Ids
+    ensures { result ≡ unwrap_or (slice_get uses.now at) no_ids }
+{
+    match uses.get(at) {
+        None => Ids::Empty,
+        Some(used) => *used,
+    }
+}
+
+/// The object made last at a place used these then.
+pub fn set_uses(uses: &mut List<Ids>, at: usize, used: Ids)
+    ensures { uses.new ≡ at_place uses.old at (put_uses used) }
+{
+    change_at(uses.as_mut_slice(), at, Put(used));
 }
 
 /// Draws the next deed of the pool at a place.
@@ -54,7 +72,5 @@ pub fn take<D: Deed>(held: &mut List<Option<D>>, at: usize) -> Option<D>
 pub fn put<D: Deed>(held: &mut List<Option<D>>, at: usize, slot: Option<D>)
     ensures { held.new ≡ at_place held.old at (put_slot slot) }
 {
-    if at < held.len() {
-        *held.item_mut(at) = slot;
-    }
+    change_at(held.as_mut_slice(), at, Put(slot));
 }

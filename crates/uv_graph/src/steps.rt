@@ -1,16 +1,18 @@
 //! The writers of entries that leave the deeds where they are. None takes memory.
 
-ghost use Rattle.std.specs.Prelude.{◌≡◌, ◌<◌, true, None, Some, IsSome};
-ghost use Rattle.uv_num.specs.declared.limits.TheConstants.{NONE};
+ghost use Rattle.std.specs.Prelude.{ℕ, ◌≡◌, ◌<◌, true, None, Some, IsSome};
+ghost use Rattle.uv_num.specs.declared.limits.TheConstants.{DRIVER, NONE};
 ghost use Rattle.uv_machine.specs.declared.entry.Entry.TheVariants as entry;
+ghost use Rattle.uv_machine.specs.declared.file.FilePhase.TheVariants as phase;
 ghost use Rattle.uv_machine.specs.declared.entry.Word.TheVariants as word;
 ghost use Rattle.uv_machine.specs.declared.entry.Answer.TheVariants as answer;
-ghost use Rattle.uv_machine.specs.States.{object_with};
+ghost use Rattle.uv_machine.specs.States.{object_with, phase_of};
 ghost use Rattle.uv_machine.specs.Histories.{Allowed, IsLegal, state_of};
 ghost use Rattle.uv_machine.specs.Accounts.{costs};
 ghost use Rattle.uv_graph.specs.Dooms.{DoomsNone};
 ghost use Rattle.uv_graph.specs.Kept.{out_of};
-ghost use Rattle.uv_graph.specs.Notes.{Notes, Leaves, HasNoneOut, IsHuskIf};
+ghost use Rattle.uv_graph.specs.Owns.{own_of, TearsNone};
+ghost use Rattle.uv_graph.specs.Notes.{Notes, Leaves, HasNoneOut};
 
 use crate::graph::Graph;
 use uv_machine::{Answer, Entry, Word};
@@ -31,6 +33,7 @@ impl<D: Deed> Graph<D> {
         self.log.note(entry);
     }
 
+    /// Notes a step that leaves the deeds.
     pub(crate) fn step(
         &mut self,
         client: u32,
@@ -95,48 +98,6 @@ impl<D: Deed> Graph<D> {
         self.step(client, Word::Act, object, found, answer);
     }
 
-    /// Locks the object that the request destroys (`rdma_core.c`, uverbs_try_lock_object).
-    pub fn lock(&mut self, client: u32, object: u32)
-        requires allowed { Allowed (state_of self.old.history) (entry.Step client word.Lock object None answer.Ok) }
-        requires none { out_of self.old client ≡ None }
-        ensures notes { Notes self.old self.new (entry.Step client word.Lock object None answer.Ok) }
-        ensures legal { IsLegal self.new.history }
-    {
-        self.step(client, Word::Lock, object, None, Answer::Ok);
-    }
-
-    /// Checks a husk, which nothing uses: no deed is about it.
-    pub fn check_husk(&mut self, client: u32, object: u32)
-        requires allowed { Allowed (state_of self.old.history) (entry.Step client word.Check object None answer.Ok) }
-        requires husk { IsHuskIf (object_with (state_of self.old.history) object) }
-        requires none { out_of self.old client ≡ None }
-        ensures notes { Notes self.old self.new (entry.Step client word.Check object None answer.Ok) }
-        ensures legal { IsLegal self.new.history }
-    {
-        self.step(client, Word::Check, object, None, Answer::Ok);
-    }
-
-    /// Takes a husk and its handle away. A teardown has released it before, so nothing is kept of it.
-    pub fn finish_husk(&mut self, client: u32, object: u32)
-        requires allowed { Allowed (state_of self.old.history) (entry.Step client word.Finish object None (answer.Kept 0)) }
-        requires husk { IsHuskIf (object_with (state_of self.old.history) object) }
-        requires none { out_of self.old client ≡ None }
-        ensures notes { Notes self.old self.new (entry.Step client word.Finish object None (answer.Kept 0)) }
-        ensures legal { IsLegal self.new.history }
-    {
-        self.step(client, Word::Finish, object, None, Answer::Kept(0));
-    }
-
-    /// Gives the call's number back (`rdma_core.c`, rdma_alloc_abort_uobject).
-    pub fn abort(&mut self, client: u32)
-        requires allowed { Allowed (state_of self.old.history) (entry.Step client word.Abort NONE None answer.Ok) }
-        requires none { out_of self.old client ≡ None }
-        ensures notes { Notes self.old self.new (entry.Step client word.Abort NONE None answer.Ok) }
-        ensures legal { IsLegal self.new.history }
-    {
-        self.step(client, Word::Abort, NONE, None, Answer::Ok);
-    }
-
     /// Lets the first object that the call looks at go (`rdma_core.c`, rdma_lookup_put_uobject).
     pub fn free(&mut self, client: u32, object: u32)
         requires allowed { Allowed (state_of self.old.history) (entry.Step client word.Free object None answer.Ok) }
@@ -186,6 +147,7 @@ impl<D: Deed> Graph<D> {
     /// Begins to tear a file down (`rdma_core.c`, uverbs_destroy_ufile_hw).
     pub fn tear(&mut self, file: u32, by: u32)
         requires allowed { Allowed (state_of self.old.history) (entry.Tear file by) }
+        requires none { TearsNone (own_of self.old by) }
         ensures notes { Notes self.old self.new (entry.Tear file by) }
         ensures legal { IsLegal self.new.history }
     {
@@ -196,8 +158,10 @@ impl<D: Deed> Graph<D> {
     pub fn dissociated(&mut self, file: u32)
         requires allowed { Allowed (state_of self.old.history) (entry.Dissociated file) }
         ensures notes { Notes self.old self.new (entry.Dissociated file) }
+        ensures torn { TearsNone (own_of self.new DRIVER) }
         ensures legal { IsLegal self.new.history }
     {
+        let _ = &self.log;
         self.note(Entry::Dissociated { file });
     }
 
@@ -205,8 +169,10 @@ impl<D: Deed> Graph<D> {
     pub fn closed(&mut self, file: u32)
         requires allowed { Allowed (state_of self.old.history) (entry.Closed file) }
         ensures notes { Notes self.old self.new (entry.Closed file) }
+        ensures torn { (by : ℕ) → phase_of (state_of self.old.history) file ≡ phase.Tearing by → TearsNone (own_of self.new by) }
         ensures legal { IsLegal self.new.history }
     {
+        let _ = &self.log;
         self.note(Entry::Closed { file });
     }
 }

@@ -1,16 +1,18 @@
 //! Calls on a graph of plain deeds, a step at a time.
 
 ghost use Rattle.std.specs.Prelude.{◌≡◌, IsTrue, None};
+ghost use Rattle.uv_machine.specs.declared.entry.Word.TheVariants as words;
+ghost use Rattle.uv_machine.specs.Plans.{next_word};
 ghost use Rattle.uv_machine.specs.Histories.{state_of};
 ghost use Rattle.uv_machine.specs.Outside.{open_refusal, enter_refusal};
-ghost use Rattle.uv_graph.specs.Hands.{ComesPlanted};
-ghost use Rattle.uv_graph.specs.Turns.{IsClient, IsReady, is_create};
+ghost use Rattle.uv_graph.specs.Conditions.{ComesPlanted, IsClient, IsReady, is_create};
+ghost use Rattle.uv_graph.specs.Owns.{own_of};
 
 use crate::{planted, step};
 use std::alloc::{AllocError, Global};
-use uv_graph::{Graph, Progress, identity_of};
-use uv_machine::{Answer, FilePhase, Readers, Word};
-use uv_num::{Errno, Kind, Request, Role};
+use uv_graph::{Graph, Progress};
+use uv_machine::{Answer, FilePhase, InFlight, Readers, Word};
+use uv_num::{Errno, Identity, Kind, Request, Role};
 use uv_pool::Deed;
 use uv_pool::plain::{PlainDeed, full_pools};
 
@@ -97,7 +99,7 @@ fn is_create(role: Role) -> bool
 
 fn is_ready(graph: &Graph<PlainDeed>, client: u32) -> bool
     requires { IsClient client }
-    ensures { IsTrue result → IsReady is_create graph.now client }
+    ensures { IsTrue result → IsReady is_create (own_of graph.now client) }
 {
     match graph.call_of(client) {
         None => false,
@@ -105,24 +107,56 @@ fn is_ready(graph: &Graph<PlainDeed>, client: u32) -> bool
     }
 }
 
-/// Whether the deed that the client's call has out is planted for the call's new object.
-fn comes_planted(graph: &Graph<PlainDeed>, client: u32, deed: &PlainDeed) -> bool
-    ensures { IsTrue result → ComesPlanted graph.now client (⟦<PlainDeed as Deed>⟧.facts deed.now) }
+/// Whether the call is about to commit its new object.
+fn is_committing(call: InFlight) -> bool
+    ensures { IsTrue result → next_word call ≡ words.Commit }
 {
-    let Some(out) = graph.out_of(client) else {
-        return false;
-    };
-    match graph.object_with(out.object) {
-        None => false,
-        Some(x) => x.phase.is_made() && deed.is_planted_for(identity_of(x), x.index, x.generation),
+    match call.next_word() {
+        Word::Commit => true,
+        Word::Reserve
+        | Word::Look
+        | Word::Make
+        | Word::Act
+        | Word::Lock
+        | Word::Check
+        | Word::Finish
+        | Word::Abort
+        | Word::Free
+        | Word::Exit => false,
     }
 }
 
-/// Plants the deed that a step handed out, and gives it back.
-fn plants(graph: &mut Graph<PlainDeed>, client: u32, object: u32, deed: PlainDeed) -> bool {
+/// Whether the deed that the client's call has out is planted for the call's new object.
+fn comes_planted(graph: &Graph<PlainDeed>, client: u32, deed: &PlainDeed) -> bool
+    ensures { IsTrue result → ComesPlanted (own_of graph.now client) (⟦<PlainDeed as Deed>⟧.facts deed.now) }
+{
+    let Some(call) = graph.call_of(client) else {
+        return false;
+    };
+    match graph.out_of(client) {
+        None => false,
+        Some(out) => is_committing(call)
+            && deed.is_planted_for(out.identity, out.index, out.generation),
+    }
+}
+
+/// Plants the deed that a step handed out by what the step and the call tell, and gives it back.
+fn plants(
+    graph: &mut Graph<PlainDeed>,
+    client: u32,
+    object: u32,
+    kind: Kind,
+    deed: PlainDeed,
+) -> bool {
     let mut deed = deed;
-    if let Some(x) = graph.object_with(object) {
-        if deed.plant(identity_of(x)).is_err() {
+    if let Some(call) = graph.call_of(client) {
+        let identity = Identity {
+            id: object,
+            kind,
+            request: call.request,
+            uses: call.looked,
+        };
+        if deed.plant(identity).is_err() {
             return false;
         }
     }
@@ -138,7 +172,7 @@ fn seen(graph: &mut Graph<PlainDeed>, client: u32, progress: Progress<PlainDeed>
         Progress::Went(word) => Saw::Went(word),
         Progress::Refused(word, errno) => Saw::Refused(word, errno),
         Progress::Plant { deed, object, kind } => {
-            if plants(graph, client, object, deed) {
+            if plants(graph, client, object, kind, deed) {
                 Saw::Planted(object, kind)
             } else {
                 Saw::Other

@@ -2,16 +2,18 @@
 
 ghost use Rattle.std.specs.Prelude.{◌≡◌, ◌↔◌, IsTrue, None, Some};
 ghost use Rattle.uv_machine.specs.declared.entry.Entry.TheVariants as entries;
+ghost use Rattle.uv_machine.specs.declared.entry.Word.TheVariants as words;
+ghost use Rattle.uv_machine.specs.Plans.{next_word};
 ghost use Rattle.uv_machine.specs.Steps.{next_of};
 ghost use Rattle.uv_machine.specs.Histories.{Allowed, state_of};
-ghost use Rattle.uv_graph.specs.Hands.{ComesPlanted};
+ghost use Rattle.uv_graph.specs.Conditions.{ComesPlanted, IsClient, IsReady, IsTouching, is_act, act_finds, role_finds, touches, role_touches};
+ghost use Rattle.uv_graph.specs.Owns.{own_of};
 ghost use Rattle.uv_graph.specs.Kept.{out_of};
-ghost use Rattle.uv_graph.specs.Turns.{IsClient, IsReady, IsTouching, is_act, act_finds, role_finds, touches, role_touches};
 
 use crate::{act, enter, step};
 use std::alloc::{AllocError, Global};
-use uv_graph::{Graph, Progress, identity_of};
-use uv_machine::{Answer, CallStep, Readers, Word};
+use uv_graph::{Graph, Progress};
+use uv_machine::{Answer, CallStep, InFlight, Readers, Word};
 use uv_num::{Act, Errno, Kind, NONE, QpState, Request, Role};
 use uv_pool::Deed;
 use uv_pool::plain::{PlainDeed, full_pools};
@@ -95,16 +97,36 @@ fn looks(graph: &mut Graph<PlainDeed>, client: u32, object: u32) -> bool
     true
 }
 
+/// Whether the call is about to commit its new object.
+fn is_committing(call: InFlight) -> bool
+    ensures { IsTrue result → next_word call ≡ words.Commit }
+{
+    match call.next_word() {
+        Word::Commit => true,
+        Word::Reserve
+        | Word::Look
+        | Word::Make
+        | Word::Act
+        | Word::Lock
+        | Word::Check
+        | Word::Finish
+        | Word::Abort
+        | Word::Free
+        | Word::Exit => false,
+    }
+}
+
 /// Whether the deed that the client's call has out is planted for the call's new object.
 fn comes_planted(graph: &Graph<PlainDeed>, client: u32, deed: &PlainDeed) -> bool
-    ensures { IsTrue result → ComesPlanted graph.now client (⟦<PlainDeed as Deed>⟧.facts deed.now) }
+    ensures { IsTrue result → ComesPlanted (own_of graph.now client) (⟦<PlainDeed as Deed>⟧.facts deed.now) }
 {
-    let Some(out) = graph.out_of(client) else {
+    let Some(call) = graph.call_of(client) else {
         return false;
     };
-    match graph.object_with(out.object) {
+    match graph.out_of(client) {
         None => false,
-        Some(x) => x.phase.is_made() && deed.is_planted_for(identity_of(x), x.index, x.generation),
+        Some(out) => is_committing(call)
+            && deed.is_planted_for(out.identity, out.index, out.generation),
     }
 }
 
@@ -116,13 +138,13 @@ fn makes(graph: &mut Graph<PlainDeed>, client: u32, object: u32) -> bool
         return false;
     }
     let deed = graph.make(client, object);
-    plants(graph, client, object, deed)
+    plants(graph, client, deed)
 }
 
-fn plants(graph: &mut Graph<PlainDeed>, client: u32, object: u32, deed: PlainDeed) -> bool {
+fn plants(graph: &mut Graph<PlainDeed>, client: u32, deed: PlainDeed) -> bool {
     let mut deed = deed;
-    if let Some(x) = graph.object_with(object) {
-        if deed.plant(identity_of(x)).is_err() {
+    if let Some(out) = graph.out_of(client) {
+        if deed.plant(out.identity).is_err() {
             return false;
         }
     }
@@ -182,16 +204,20 @@ fn creates(graph: &mut Graph<PlainDeed>, client: u32) -> bool
 }
 
 /// Client 1 asks for something on file 0.
-pub fn asks(graph: &mut Graph<PlainDeed>, request: Request) -> Option<Result<(), Errno>> {
+pub fn asks(
+    graph: &mut Graph<PlainDeed>,
+    alloc: Global,
+    request: Request,
+) -> Option<Result<(), Errno>> {
     if graph.call_of(1).is_some() {
         return None;
     }
-    Some(enter(graph, 1, 0, &request))
+    Some(enter(graph, alloc, 1, 0, &request))
 }
 
 /// Client 1 makes an object of file 0.
-pub fn is_created(graph: &mut Graph<PlainDeed>, request: Request) -> bool {
-    if asks(graph, request) != Some(Ok(())) {
+pub fn is_created(graph: &mut Graph<PlainDeed>, alloc: Global, request: Request) -> bool {
+    if asks(graph, alloc, request) != Some(Ok(())) {
         return false;
     }
     for _turn in 0..16 {
@@ -252,7 +278,7 @@ fn role_finds(role: Role) -> bool
 
 fn is_ready(graph: &Graph<PlainDeed>, client: u32) -> bool
     requires { IsClient client }
-    ensures { IsTrue result → IsReady is_act graph.now client }
+    ensures { IsTrue result → IsReady is_act (own_of graph.now client) }
 {
     match graph.call_of(client) {
         None => false,
@@ -262,7 +288,7 @@ fn is_ready(graph: &Graph<PlainDeed>, client: u32) -> bool
 
 fn is_touching(graph: &Graph<PlainDeed>, client: u32, found: Option<QpState>) -> bool
     requires { IsClient client }
-    ensures { IsTrue result → IsTouching graph.now client found }
+    ensures { IsTrue result → IsTouching (own_of graph.now client) found }
 {
     match graph.call_of(client) {
         None => false,

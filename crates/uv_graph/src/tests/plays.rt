@@ -1,16 +1,22 @@
 //! Entries that are written out, each made by the writer that it is for where the machine allows it.
 
 ghost use Rattle.std.specs.Prelude.{◌≡◌, ◌↔◌, ℕ, true, IsTrue, List, None, slice_get};
-ghost use Rattle.uv_machine.specs.declared.entry.Entry.{Entry};
+ghost use Rattle.uv_pool.specs.declared.deed.Life.{Life};
 ghost use Rattle.uv_machine.specs.declared.entry.Entry.TheVariants as entries;
+ghost use Rattle.uv_machine.specs.declared.entry.Word.TheVariants as words;
+ghost use Rattle.uv_machine.specs.Plans.{next_word};
 ghost use Rattle.uv_machine.specs.Laws.{IsIdle};
 ghost use Rattle.uv_machine.specs.Histories.{Allowed, state_of};
 ghost use Rattle.uv_machine.specs.States.{object_with, phase_in, the_call};
-ghost use Rattle.uv_graph.specs.Hands.{AreOver, ComesBuried, ComesPlanted, is_live_object, is_over};
+ghost use Rattle.uv_machine.specs.Files.{AreOver};
+ghost use Rattle.uv_machine.specs.Filed.{is_over};
+ghost use Rattle.uv_graph.specs.Conditions.{ComesPlanted};
+ghost use Rattle.uv_graph.specs.Hands.{ComesBuried, is_live_object};
 ghost use Rattle.uv_graph.specs.Kept.{kill_of, out_of};
 ghost use Rattle.uv_graph.specs.Notes.{IsHuskIf};
-ghost use Rattle.uv_graph.specs.Owns.{is_torn_by, torn_by_object};
+ghost use Rattle.uv_graph.specs.Owns.{own_of, torn_by_object};
 
+use crate::standing::is_torn_by;
 use crate::{Graph, Out, identity_of};
 use std::alloc::{AllocError, Global};
 use uv_machine::{Answer, Entry, File, FilePhase, InFlight, Object, Readers, State, Word};
@@ -56,15 +62,6 @@ fn is_husk(found: Option<Object>) -> bool
     }
 }
 
-fn is_torn_by(by: u32, phase: FilePhase) -> bool
-    ensures { result ≡ is_torn_by by phase }
-{
-    match phase {
-        FilePhase::Tearing { by: actor } => actor == by,
-        FilePhase::Fresh | FilePhase::Open | FilePhase::Dissociated | FilePhase::Closed => false,
-    }
-}
-
 /// Whether an actor is tearing the object's file down.
 fn tears(graph: &Graph<PlainDeed>, by: u32, object: u32) -> bool
     ensures { result ≡ torn_by_object (state_of graph.now.history) by (object_with (state_of graph.now.history) object) }
@@ -107,26 +104,55 @@ fn goes(
         )
 }
 
+/// Whether the call is about to commit its new object.
+fn is_committing(call: InFlight) -> bool
+    ensures { IsTrue result → next_word call ≡ words.Commit }
+{
+    match call.next_word() {
+        Word::Commit => true,
+        Word::Reserve
+        | Word::Look
+        | Word::Make
+        | Word::Act
+        | Word::Lock
+        | Word::Check
+        | Word::Finish
+        | Word::Abort
+        | Word::Free
+        | Word::Exit => false,
+    }
+}
+
 /// Whether the deed that the client's call has out is planted for the call's new object.
 fn comes_planted(graph: &Graph<PlainDeed>, client: u32, deed: &PlainDeed) -> bool
-    ensures { IsTrue result → ComesPlanted graph.now client (⟦<PlainDeed as Deed>⟧.facts deed.now) }
+    ensures { IsTrue result → ComesPlanted (own_of graph.now client) (⟦<PlainDeed as Deed>⟧.facts deed.now) }
 {
-    let Some(out) = out_of(graph, client) else {
+    let Some(call) = graph.call_of(client) else {
         return false;
     };
-    match graph.object_with(out.object) {
+    match out_of(graph, client) {
         None => false,
-        Some(x) => x.phase.is_made() && deed.is_planted_for(identity_of(x), x.index, x.generation),
+        Some(out) => is_committing(call)
+            && deed.is_planted_for(out.identity, out.index, out.generation),
     }
 }
 
 /// Whether the deed that is out for an object is buried.
 fn comes_buried(hand: Option<Out>, object: u32, deed: &PlainDeed) -> bool
-    ensures { (h : List Entry) → IsTrue result → ComesBuried hand object (⟦<PlainDeed as Deed>⟧.facts deed.now) h }
+    ensures { (lives : List Life) → IsTrue result → ComesBuried hand lives object (⟦<PlainDeed as Deed>⟧.facts deed.now) }
 {
     match hand {
         None => false,
-        Some(out) => out.object == object && deed.is_buried(out.kind, out.index, out.generation),
+        Some(out) => out.identity.id == object
+            && deed.is_buried(out.identity.kind, out.index, out.generation),
+    }
+}
+
+/// Whether what an actor has out is known as the deed was planted.
+fn is_known_as(hand: Option<Out>, deed: &PlainDeed) -> bool {
+    match (hand, deed.identity) {
+        (Some(out), Some(identity)) => out.identity.is_same(identity),
+        _ => false,
     }
 }
 
@@ -175,7 +201,8 @@ impl Player {
         if !goes(&self.graph, client, Word::Lock, object, None, Answer::Ok) {
             return false;
         }
-        self.graph.lock(client, object);
+        self.graph
+            .step(client, Word::Lock, object, None, Answer::Ok);
         true
     }
 
@@ -183,7 +210,7 @@ impl Player {
         if !goes(&self.graph, client, Word::Abort, NONE, None, Answer::Ok) {
             return false;
         }
-        self.graph.abort(client);
+        self.graph.step(client, Word::Abort, NONE, None, Answer::Ok);
         true
     }
 
@@ -234,7 +261,7 @@ impl Player {
     }
 
     fn tears(&mut self, file: u32, by: u32) -> bool {
-        if !allows(&self.graph, Entry::Tear { file, by }) {
+        if self.graph.torn_by(by).is_some() || !allows(&self.graph, Entry::Tear { file, by }) {
             return false;
         }
         self.graph.tear(file, by);
@@ -289,13 +316,16 @@ impl Player {
         }
         let found = self.graph.object_with(object);
         if is_live(found) {
-            self.hand = Some(self.graph.check(client, object));
-            return true;
+            let deed = self.graph.check(client, object);
+            let known = is_known_as(out_of(&self.graph, client), &deed);
+            self.hand = Some(deed);
+            return known;
         }
         if !is_husk(found) {
             return false;
         }
-        self.graph.check_husk(client, object);
+        self.graph
+            .step(client, Word::Check, object, None, Answer::Ok);
         true
     }
 
@@ -335,7 +365,8 @@ impl Player {
         if !is_husk(self.graph.object_with(object)) {
             return false;
         }
-        self.graph.finish_husk(client, object);
+        self.graph
+            .step(client, Word::Finish, object, None, Answer::Kept(0));
         true
     }
 
@@ -347,8 +378,10 @@ impl Player {
         if !allows(&self.graph, Entry::Kill { object }) {
             return false;
         }
-        self.hand = Some(self.graph.kill(by, object));
-        true
+        let deed = self.graph.kill(by, object);
+        let known = is_known_as(kill_of(&self.graph, by), &deed);
+        self.hand = Some(deed);
+        known
     }
 
     /// Releases an object whose deed is out, and buries that.

@@ -1,7 +1,7 @@
 //! What the histories show.
 
 use super::plays::Player;
-use crate::own_stands_apart;
+use crate::{names_its_actor, own_stands_apart};
 use std::alloc::{AllocError, Global};
 use std::test::Fail;
 use uv_machine::{Answer, Entry, FilePhase, Readers, Word, first_bad};
@@ -68,16 +68,41 @@ fn reg_mr(pd: u32) -> Request {
     }
 }
 
-/// A whole call that registers a region of the domain 0.
-fn region_made(id: u32, told: Answer) -> [Entry; 7] {
+/// A whole call that makes an object of the domain 0.
+fn made_of_domain(request: Request, id: u32, told: Answer) -> [Entry; 7] {
     [
-        enters(1, 0, reg_mr(0), Answer::Ok),
+        enters(1, 0, request, Answer::Ok),
         steps(1, Word::Reserve, NONE, Answer::Ok),
         steps(1, Word::Look, 0, Answer::Ok),
         steps(1, Word::Make, id, Answer::Ok),
         steps(1, Word::Commit, id, Answer::Ok),
         steps(1, Word::Free, 0, Answer::Ok),
         steps(1, Word::Exit, NONE, told),
+    ]
+}
+
+/// A whole call that registers a region of the domain 0.
+fn region_made(id: u32, told: Answer) -> [Entry; 7] {
+    made_of_domain(reg_mr(0), id, told)
+}
+
+/// A whole call that binds the window 2 to the region 1.
+fn window_bound() -> [Entry; 7] {
+    let request = Request::BindMw {
+        mw: 2,
+        mr: Some(1),
+        offset: 0,
+        length: 8,
+        access: 4,
+    };
+    [
+        enters(1, 0, request, Answer::Ok),
+        steps(1, Word::Look, 2, Answer::Ok),
+        steps(1, Word::Look, 1, Answer::Ok),
+        steps(1, Word::Act, 2, Answer::Ok),
+        steps(1, Word::Free, 2, Answer::Ok),
+        steps(1, Word::Free, 1, Answer::Ok),
+        steps(1, Word::Exit, NONE, Answer::Ok),
     ]
 }
 
@@ -146,6 +171,27 @@ fn destroyed_and_torn(alloc: Global) -> Result<Vec<Entry>, AllocError> {
     Ok(history)
 }
 
+/// A window is bound and destroyed: its deed comes back known as it was planted.
+fn bound_and_gone(alloc: Global) -> Result<Vec<Entry>, AllocError> {
+    let region = Request::RegMr {
+        pd: 0,
+        length: 4_096,
+        access: 17,
+    };
+    let mut history = Vec::new(alloc);
+    history.push(opens(1, 0, 0, Answer::Ok))?;
+    history.extend_from_slice(&alloc_pd(1, 0, 0, made(0, 0, 0)))?;
+    history.extend_from_slice(&made_of_domain(region, 1, made(1, 0, 0)))?;
+    history.extend_from_slice(&made_of_domain(Request::AllocMw { pd: 0 }, 2, made(2, 0, 0)))?;
+    history.extend_from_slice(&window_bound())?;
+    history.extend_from_slice(&destroyed(1, 0, Request::DeallocMw { mw: 2 }, 2, 0))?;
+    history.push(Entry::Tear { file: 0, by: 10 })?;
+    history.extend_from_slice(&goes(1, 0))?;
+    history.extend_from_slice(&goes(0, 0))?;
+    history.push(Entry::Closed { file: 0 })?;
+    Ok(history)
+}
+
 /// A device is pulled, and the husk of its domain is destroyed.
 fn pulled(alloc: Global) -> Result<Vec<Entry>, AllocError> {
     let mut history = Vec::new(alloc);
@@ -202,7 +248,11 @@ fn generations(alloc: Global, pool: Pool<PlainDeed>) -> Result<Option<(usize, us
 #[test]
 fn a_history_is_kept_as_it_is_played(rt: HostRuntime) -> Result<(), Fail> {
     let alloc = rt.alloc();
-    let histories = [(10, destroyed_and_torn(alloc)?), (9, pulled(alloc)?)];
+    let histories = [
+        (10, destroyed_and_torn(alloc)?),
+        (9, pulled(alloc)?),
+        (10, bound_and_gone(alloc)?),
+    ];
     for (by, history) in histories.iter() {
         assert_eq!(rt; first_bad(alloc, history.as_slice())?, None);
         let (kept, _) = played(alloc, *by, history.as_slice())?;
@@ -232,6 +282,7 @@ fn all_deeds_are_home_behind_a_history(rt: HostRuntime) -> Result<(), Fail> {
 #[test]
 fn the_graph_is_read_beside_a_create(rt: HostRuntime) -> Result<(), Fail> {
     own_stands_apart();
+    names_its_actor();
     let history = destroyed_and_torn(rt.alloc())?;
     let mut player = Player::new(rt.alloc())?;
     for entry in history.as_slice().iter().take(11) {
@@ -259,5 +310,6 @@ fn the_graph_is_read_beside_a_create(rt: HostRuntime) -> Result<(), Fail> {
     assert_eq!(rt; graph.newest_free(0), graph.object_with(0));
     assert_eq!(rt; graph.spare(1), 20_000);
     assert_eq!(rt; graph.spare(9), 0);
+    assert_eq!(rt; graph.torn_by(10), None);
     Ok(())
 }

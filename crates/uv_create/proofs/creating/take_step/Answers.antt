@@ -1,7 +1,7 @@
 use Rattle.std.proofs.Common.{◌≡◌, true, ap, sym, ◌∙◌}
 use Rattle.std.proofs.lemmas.Option.{same_Some}
 use Rattle.uv_num.specs.Request.{role_of}
-use Rattle.uv_graph.specs.Turns.{is_create}
+use Rattle.uv_graph.specs.Conditions.{is_create}
 use Rattle.uv_graph.proofs.Stepped.{word_is}
 use Rattle.uv_create.proofs.Planning.{never}
 use Rattle.uv_create.proofs.creating.take_step.Goals as goal

@@ -1,6 +1,6 @@
 use Rattle.std.proofs.Common.{◌≡◌, Some, ap, sym, ◌∙◌}
 use Rattle.std.proofs.lemmas.Option.{same_Some}
-use Rattle.uv_graph.specs.Turns.{awaits}
+use Rattle.uv_graph.specs.Conditions.{awaits}
 use Rattle.uv_fileops.proofs.Touched.{awaits_word}
 use Rattle.uv_fileops.proofs.acting.step.Goals as goal
 

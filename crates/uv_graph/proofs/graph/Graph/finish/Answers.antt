@@ -1,4 +1,4 @@
-use Rattle.std.proofs.Common.{◌∙◌, None, ap, subst, sym, refl, arith}
+use Rattle.std.proofs.Common.{◌∙◌, None, Some, ap, subst, sym, refl, arith}
 use Rattle.std.specs.Prelude.{slice_get}
 use Rattle.uv_num.specs.Kind.{kind_place}
 use Rattle.uv_num.specs.Place.{at_place}
@@ -11,6 +11,9 @@ use Rattle.uv_graph.specs.Hands.{ComesBuried}
 use Rattle.uv_graph.specs.Kept.{Kept, out_of}
 use Rattle.uv_graph.specs.Seats.{seat_place}
 use Rattle.uv_graph.specs.Slots.{put_slot}
+use Rattle.uv_graph.specs.Lives.{lives_out}
+use Rattle.uv_graph.proofs.Planting.{slot_out}
+use Rattle.uv_graph.proofs.Whole.{whole_out, no_out}
 use Rattle.uv_graph.proofs.Finishing.{finish_out, finish_tied}
 use Rattle.uv_graph.proofs.graph.Graph.finish.Goals as goal
 
@@ -20,11 +23,11 @@ bring_home-requires g c pool is =
     let tell = g.D.Deed.facts in
     let A : Kept → Type 0 = λ k. Allowed (state_of k.history) (entry.Step c.args.client word.Finish c.args.object None (answer.Kept c.args.kept)) in
     let allowed = subst A (sym c.self.view_is) c.requires.allowed in
-    let B : Kept → Type 0 = λ k. ComesBuried (out_of k c.args.client) c.args.object (tell d) k.history in
+    let B : Kept → Type 0 = λ k. ComesBuried (out_of k c.args.client) (lives_out k.history (out_of k c.args.client)) c.args.object (tell d) in
     let comes = subst B (sym c.self.view_is) c.requires.buried in
     let k : Kept = record { history = c.self.inside.log.history; spares = c.self.inside.spares; outs = c.self.inside.outs; kills = c.self.inside.kills } in
     let place = c.place-place.ensures.place ∙ ap kind_place c.kind.ensures in
-    finish_out tell c.self.inside.log k c.self.inside.pools c.self.inside.held c.self.invariant d c.args.object c.args.kept c.args.client allowed comes pool (ap (λ v. slice_get c.self.inside.pools v) (sym place) ∙ is)
+    finish_out tell c.self.inside.log k c.self.inside.pools c.self.inside.held c.self.invariant.tied d c.args.object c.args.kept c.args.client allowed comes pool (ap (λ v. slice_get c.self.inside.pools v) (sym place) ∙ is)
 
 pub invariant_of-self : goal.invariant_of-self
 invariant_of-self g c =
@@ -32,8 +35,10 @@ invariant_of-self g c =
     let tell = g.D.Deed.facts in
     let A : Kept → Type 0 = λ k. Allowed (state_of k.history) (entry.Step c.args.client word.Finish c.args.object None (answer.Kept c.args.kept)) in
     let allowed = subst A (sym c.self.view_is) c.requires.allowed in
-    let B : Kept → Type 0 = λ k. ComesBuried (out_of k c.args.client) c.args.object (tell d) k.history in
+    let B : Kept → Type 0 = λ k. ComesBuried (out_of k c.args.client) (lives_out k.history (out_of k c.args.client)) c.args.object (tell d) in
     let comes = subst B (sym c.self.view_is) c.requires.buried in
     let k : Kept = record { history = c.self.inside.log.history; spares = c.self.inside.spares; outs = c.self.inside.outs; kills = c.self.inside.kills } in
     let place = c.place-place.ensures.place ∙ ap kind_place c.kind.ensures in
-    finish_tied tell c.self.inside.log c.note.new.self k _ c.self.inside.pools c.bring_home.new.pools c.self.inside.held c.put.new.held c.self.invariant d c.args.object c.args.kept (c.bring_home.ensures ∙ ap (λ v. at_place c.self.inside.pools v (brought (g.D.Deed.facts d).index d)) place) (c.put.ensures ∙ ap (λ v. at_place c.self.inside.held v (put_slot None)) (c.seat_place.ensures ∙ ap (λ v. seat_place (kind_place v) c.index.result) c.kind-2.ensures ∙ ap (seat_place (kind_place (g.D.Deed.facts d).kind)) c.index.ensures.index)) c.note.ensures.legal refl (omega (arith, c.self.invariant.covered, c.note.ensures.spare)) c.args.client allowed comes c.note.ensures.history c.set_out.ensures refl
+    whole_out tell c.self.inside.log c.note.new.self k _ c.self.inside.pools c.bring_home.new.pools c.self.inside.held c.put.new.held c.self.inside.uses c.self.invariant (entry.Step c.args.client word.Finish c.args.object None (answer.Kept c.args.kept)) allowed tt c.note.ensures.history
+    (finish_tied tell c.self.inside.log c.note.new.self k _ c.self.inside.pools c.bring_home.new.pools c.self.inside.held c.put.new.held c.self.invariant.tied d c.args.object c.args.kept (c.bring_home.ensures ∙ ap (λ v. at_place c.self.inside.pools v (brought (g.D.Deed.facts d).index d)) place) (c.put.ensures ∙ ap (λ v. at_place c.self.inside.held v (put_slot None)) (c.seat_place.ensures ∙ ap (λ v. seat_place (kind_place v) c.index.result) c.kind-2.ensures ∙ ap (seat_place (kind_place (g.D.Deed.facts d).kind)) c.index.ensures.index)) c.note.ensures.legal refl (omega (arith, c.self.invariant.tied.covered, c.note.ensures.spare)) c.args.client allowed comes c.note.ensures.history c.set_out.ensures refl)
+    refl c.args.client None (Some comes.out) c.set_out.ensures (slot_out (slice_get c.self.inside.outs c.args.client) comes.out comes.is) refl (no_out c.note.new.self.history)

@@ -16,6 +16,6 @@ returns g c =
     let tell = g.D.Deed.facts in
     let P : Kept → Type 0 = λ k. IsStep k c.args._client d in
     let step = subst P (sym c.self.view_is) c.requires.step in
-    let husk = finishes_husk tell c.self.inside.log _ c.self.inside.pools c.self.inside.held c.self.invariant c.args._client step.next.call step.next.is (word_is _ c.args._client d step ∙ c.requires.word) step.none in
+    let husk = finishes_husk tell c.self.inside.log _ c.self.inside.pools c.self.inside.held c.self.invariant.tied c.args._client step.next.call step.next.is (word_is _ c.args._client d step ∙ c.requires.word) step.none in
     let Q : Kept → Type 0 = λ k. is_husk_object (object_with (state_of k.history) d.object) ≡ true in
     subst Q c.self.view_is (ap (λ o. is_husk_object (object_with m o)) (sym (step_names _ c.args._client d step Finish c.requires.word)) ∙ husk)

@@ -14,5 +14,5 @@ returns g c =
     let N : Kept → Type 0 = λ k. kill_of k c.args.by ≡ None in
     let R : Kept → Type 0 = λ k. IsSwept k.history c.args.file c.args.by in
     subst R c.self.view_is
-    (swept_here _ c.self.inside.log _ _ _ c.self.invariant c.args.by c.args.file
+    (swept_here _ c.self.inside.log _ _ _ c.self.invariant.tied c.args.by c.args.file
     (subst P (sym c.self.view_is) c.requires.tearing) (subst Q (sym c.self.view_is) c.requires.quiet) (subst N (sym c.self.view_is) c.requires.none))

@@ -1,0 +1,7 @@
+//! Destroys played to their ends, with deeds that have no contents.
+
+mod destroys;
+mod making;
+mod plays;
+mod removing;
+mod rows;
