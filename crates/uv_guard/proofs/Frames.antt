@@ -11,6 +11,7 @@ use Rattle.uv_order.specs.declared.taken.Taken.{Taken}
 use Rattle.uv_guard.specs.declared.life.Stage.{Stage}
 use Rattle.uv_guard.specs.declared.life.Planting.{Planting}
 use Rattle.uv_guard.specs.declared.life.Life.{Life}
+use Rattle.uv_guard.specs.declared.view.Found.{Found}
 use Rattle.uv_guard.specs.declared.view.View.{View}
 use Rattle.uv_guard.specs.declared.view.Role.TheVariants.{Taker, Owner}
 use Rattle.uv_order.specs.Signed.{those}
@@ -90,6 +91,46 @@ module _ {T : Type 0} (goes_on : T → T → Type 0) where
   -- nothing changes
   pub stays : (s : St T) (r : IsGuarded goes_on s) (i id : ℕ) (v : View T) → get_elem? s.views id ≡ some v → IsGuarded goes_on record { words = set s.words i (get_or s.words i 0); homes = s.homes; views = set s.views id v }
   stays s r i id v at = subst (λ (y : List ℕ × List (View T)). IsGuarded goes_on record { words = y.0; homes = s.homes; views = y.1 }) (λ k. (sym (set-get_or s.words i 0) k, sym (set_again s.views id v at) k)) r
+
+  -- nothing changes but what a seat found
+  pub finds : (s : St T) (r : IsGuarded goes_on s) (i id : ℕ) (v : View T) (ws : List Found) → get_elem? s.views id ≡ some v → IsGuarded goes_on record { words = set s.words i (get_or s.words i 0); homes = s.homes; views = set s.views id (record v { found = ws }) }
+  finds s r i id v ws at =
+      let k = r.each_seat id v at in
+      subst (λ (l : List ℕ). IsGuarded goes_on record { words = l; homes = s.homes; views = set s.views id (record v { found = ws }) }) (sym (set-get_or s.words i 0)) record {
+        truth = r.truth;
+        account = r.account;
+        fits = r.fits;
+        two_words = r.two_words;
+        one_slot = r.one_slot;
+        few = r.few;
+        top_is = r.top_is;
+        turn_is = r.turn_is;
+        odd = r.odd;
+        refers = r.refers;
+        lies = r.lies;
+        each_seat = all_set (Knows r.truth) s.views id (record v { found = ws })
+            record {
+              below = k.below;
+              chair_is = k.chair_is;
+              refers_is = k.refers_is;
+              idle = k.idle;
+              entered_is = k.entered_is;
+              took_is = k.took_is;
+              apart = k.apart;
+              told_plants = k.told_plants;
+              told_lives = k.told_lives;
+              deed_is = k.deed_is;
+              owns = λ p. let o = k.owns p in record {
+                stage_is = o.stage_is;
+                generation_is = o.generation_is;
+                given_is = o.given_is;
+                plants_is = o.plants_is;
+                lives_is = o.lives_is;
+                kept_is = o.kept_is;
+              };
+            }
+            (λ j u _ e. r.each_seat j u e);
+      }
 
   -- at a stage at which no seat may refer, none does, and none has the turn
   pub no_refs : (s : St T) (r : IsGuarded goes_on s) → ¬ IsStanding r.truth.stage → (m g : ℕ) → r.truth.refs m ≢ Some g

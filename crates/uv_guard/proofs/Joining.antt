@@ -6,6 +6,9 @@ use lib.ListN.{get_elem?}
 use Rattle.atomic_table.specs.Table.{Splits, Joins, opening}
 use Rattle.atomic_table.proofs.Lists.{at_set, set_again}
 use Rattle.uv_num.specs.Prefix.{IsPrefix}
+use Rattle.uv_order.specs.declared.taken.Taken.{Taken}
+use Rattle.uv_order.specs.Signed.{nobody}
+use Rattle.uv_order.specs.Laws.{LogLaws}
 use Rattle.uv_guard.specs.declared.life.Stage.TheVariants.{Home}
 use Rattle.uv_guard.specs.declared.life.Planting.{Planting}
 use Rattle.uv_guard.specs.declared.life.Life.{Life}
@@ -171,8 +174,8 @@ module _ {T : Type 0} (goes_on : T → T → Type 0) where
       }
 
   -- the deed makes the next seat
-  pub forks : (id : ℕ) (v : View T) → v.role ≡ Owner → v.kept ≡ [] → v.given < 32 → Splits (IsGuarded goes_on) id v (one_given v) (seat_view v.given)
-  forks id v is empty room s r at =
+  pub forks : LogLaws (Taken T) → (id : ℕ) (v : View T) → v.role ≡ Owner → v.kept ≡ [] → v.given < 32 → Splits (IsGuarded goes_on) id v (one_given v) (seat_view v.given)
+  forks logs id v is empty room s r at =
       let t : Truth T = r.truth in
       let kv = r.each_seat id v at in let own = kv.owns is in
       let g : ℕ = t.given in let given_is : v.given ≡ g = own.given_is in
@@ -187,7 +190,7 @@ module _ {T : Type 0} (goes_on : T → T → Type 0) where
         refers_is = λ _. no_ref;
         idle = λ _ _ q. let o = r.refers g t.gen (r.odd g q) in let lt = o.1 in absurd (omega arith);
         entered_is = λ h q. absurd cc;
-        took_is = λ _. sym (those_none g t.log r.account.authors);
+        took_is = λ _. sym (those_none logs g t.log (subst (λ (n : ℕ). n < nobody) given_is room) r.account.authors);
         apart = λ _. subst (IsApart g) (sym (sym own.kept_is ∙ empty)) tt;
         told_plants = prefix_none t.plants;
         told_lives = prefix_none t.lives;

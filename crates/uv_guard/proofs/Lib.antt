@@ -12,3 +12,7 @@ mod Lists
 mod Tries
 mod Many
 mod Leaving
+mod ByCell
+mod Registers
+mod Fresh
+mod Tested

@@ -4,10 +4,11 @@ use Rattle.std.specs.Prelude.{Option, Some, None, slice_get, slice_index_or}
 use Rattle.atomic_table.specs.Seated.{TableId}
 use Rattle.uv_num.specs.Each.{Each}
 use Rattle.uv_guard.specs.declared.cell.Cell.{Cell}
+use Rattle.uv_guard.specs.declared.view.Found.{Found}
 use Rattle.uv_guard.specs.declared.view.Held.{Held}
 use Rattle.uv_guard.specs.Cells.{tables}
 use Rattle.uv_guard.specs.Steps.{taking}
-use Rattle.uv_guard.specs.Seated.{PlacedSeat, Seated, Deeded, more_at, seated, outside, given_back, witnessed}
+use Rattle.uv_guard.specs.Seated.{PlacedSeat, Seated, Deeded, more_at, seated, finds, outside, given_back, witnessed}
 
 module _ {X : Type 0} where
   pub at_index : (xs : List X) (i : ℕ) (r : X) → i < length xs → r ≡ get_or xs i r → slice_get xs i ≡ Some r
@@ -78,23 +79,33 @@ module _ {T : Type 0} where
 
   -- the seat, after a change at one place that stays at its cell
   pub put_place : (n : ℕ) (ps : List (PlacedSeat T)) (i : ℕ) (p q : PlacedSeat T) → slice_get ps i ≡ Some p → q.cell ≡ p.cell
-      → seated n (set ps i q) ≡ record (seated n ps) { held = set (seated n ps).held i q.held; took = set (seated n ps).took i q.took; met = set (seated n ps).met i q.met }
+      → seated n (set ps i q) ≡ record (seated n ps) { found = set (seated n ps).found i q.found; held = set (seated n ps).held i q.held; took = set (seated n ps).took i q.took; met = set (seated n ps).met i q.met }
   put_place n ps i p q at e k = record {
     number = n;
     guard = map_set_same (λ (z : PlacedSeat T). z.cell) ps i p q at e k;
+    found = map_set (λ (z : PlacedSeat T). z.found) ps i q k;
     held = map_set (λ (z : PlacedSeat T). z.held) ps i q k;
     took = map_set (λ (z : PlacedSeat T). z.took) ps i q k;
     met = map_set (λ (z : PlacedSeat T). z.met) ps i q k;
   }
 
-  -- nothing changes
-  pub put_same : (n : ℕ) (ps : List (PlacedSeat T)) (i : ℕ) (p q : PlacedSeat T) → slice_get ps i ≡ Some p → q ≡ p → seated n (set ps i q) ≡ seated n ps
-  put_same n ps i p q at e = ap (λ z. seated n (set ps i z)) e ∙ ap (seated n) (set_same ps i p at)
-
-  pub put_held : (n : ℕ) (ps : List (PlacedSeat T)) (i : ℕ) (p : PlacedSeat T) (h : Option (Held T)) → slice_get ps i ≡ Some p → seated n (set ps i (record p { held = h })) ≡ record (seated n ps) { held = set (seated n ps).held i h }
-  put_held n ps i p h at =
-      put_place n ps i p (record p { held = h }) at refl
+  -- nothing changes but what was found
+  pub put_found : (n : ℕ) (ps : List (PlacedSeat T)) (i : ℕ) (p q : PlacedSeat T) (w : List Found) → slice_get ps i ≡ Some p → q ≡ record p { found = w } → seated n (set ps i q) ≡ finds (seated n ps) i w
+  put_found n ps i p q w at is =
+      ap (λ z. seated n (set ps i z)) is
+      ∙ (put_place n ps i p (record p { found = w }) at refl
       ∙ (λ k. record (seated n ps) {
+        found = set (seated n ps).found i w;
+        held = set_same (seated n ps).held i p.held (get_map (λ (z : PlacedSeat T). z.held) ps i p at) k;
+        took = set_same (seated n ps).took i p.took (get_map (λ (z : PlacedSeat T). z.took) ps i p at) k;
+        met = set_same (seated n ps).met i p.met (get_map (λ (z : PlacedSeat T). z.met) ps i p at) k;
+      }))
+
+  pub put_held : (n : ℕ) (ps : List (PlacedSeat T)) (i : ℕ) (p : PlacedSeat T) (w : List Found) (h : Option (Held T)) → slice_get ps i ≡ Some p → seated n (set ps i (record p { found = w; held = h })) ≡ record (finds (seated n ps) i w) { held = set (seated n ps).held i h }
+  put_held n ps i p w h at =
+      put_place n ps i p (record p { found = w; held = h }) at refl
+      ∙ (λ k. record (seated n ps) {
+        found = set (seated n ps).found i w;
         held = set (seated n ps).held i h;
         took = set_same (seated n ps).took i p.took (get_map (λ (z : PlacedSeat T). z.took) ps i p at) k;
         met = set_same (seated n ps).met i p.met (get_map (λ (z : PlacedSeat T). z.met) ps i p at) k;
@@ -105,6 +116,7 @@ module _ {T : Type 0} where
       ap (λ z. seated n (set ps i z)) is
       ∙ (put_place n ps i p (record p { held = None; took = p.took ++ taking h y ∷ [] }) at refl
       ∙ ((λ k. record (seated n ps) {
+        found = set_same (seated n ps).found i p.found (get_map (λ (z : PlacedSeat T). z.found) ps i p at) k;
         held = set (seated n ps).held i None;
         took = sym (more_is_set (seated n ps).took i p.took (taking h y) (get_map (λ (z : PlacedSeat T). z.took) ps i p at)) k;
         met = set_same (seated n ps).met i p.met (get_map (λ (z : PlacedSeat T). z.met) ps i p at) k;
@@ -116,6 +128,7 @@ module _ {T : Type 0} where
       ap (λ z. seated n (set ps i z)) is
       ∙ (put_place n ps i p (record p { met = record { plants = d.plants; lives = d.lives } }) at refl
       ∙ (λ k. record (seated n ps) {
+        found = set_same (seated n ps).found i p.found (get_map (λ (z : PlacedSeat T). z.found) ps i p at) k;
         held = set_same (seated n ps).held i p.held (get_map (λ (z : PlacedSeat T). z.held) ps i p at) k;
         took = set_same (seated n ps).took i p.took (get_map (λ (z : PlacedSeat T). z.took) ps i p at) k;
         met = set (seated n ps).met i record { plants = d.plants; lives = d.lives };

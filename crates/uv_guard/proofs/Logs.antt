@@ -1,5 +1,5 @@
 -- What a step adds to all that was done with a cell.
-use Rattle.std.proofs.Common.{◌≡◌, ◌≢◌, ℕ, suc, ◌+◌, ◌<◌, ◌≤◌, cond, subst, sym, refl, ap, ◌∙◌, eq-eqb, ne_eqb, arith, List, [], ◌∷◌, ◌++◌, append_assoc, append-nil, Bool, true, false, nat_eq, length, map}
+use Rattle.std.proofs.Common.{◌≡◌, ◌≢◌, ◌⊎◌, inl, ℕ, suc, ◌+◌, ◌<◌, ◌≤◌, cond, subst, sym, refl, ap, ◌∙◌, eq-eqb, ne_eqb, arith, List, [], ◌∷◌, ◌++◌, append_assoc, append-nil, Bool, true, false, nat_eq, length, map}
 use Rattle.std.specs.Prelude.{Option, Some, None}
 use Rattle.uv_num.specs.Each.{Each}
 use Rattle.uv_num.specs.Prefix.{IsPrefix}
@@ -10,7 +10,8 @@ use Rattle.uv_guard.specs.declared.life.Stage.TheVariants.{Home, Filling, Plante
 use Rattle.uv_guard.specs.declared.life.Planting.{Planting}
 use Rattle.uv_guard.specs.declared.life.Life.{Life}
 use Rattle.uv_guard.specs.declared.view.Kept.{Kept}
-use Rattle.uv_order.specs.Signed.{those, AreOfSeats}
+use Rattle.uv_order.specs.Signed.{nobody, sign, those, AreOfSeats}
+use Rattle.uv_order.specs.Laws.{LogLaws, TakingLaws}
 use Rattle.uv_order.specs.Takings.{run, Chains}
 use Rattle.uv_guard.specs.Lives.{IsStanding, over, begun, standing, planting, LeadsTo, Runs, AreLived, AreNumbered, AreEnded, Grows, IsAfter, IsOf, AreKept, IsApart}
 use Rattle.uv_guard.specs.Rule.{Truth, Account}
@@ -40,43 +41,19 @@ pub length_more : {X : Type 0} (xs : List X) (x : X) → length (xs ++ x ∷ [])
 length_more [] x = refl
 length_more (y ∷ ys) x = ap suc (length_more ys x)
 
-module _ {E : Type 0} (n : ℕ) (t : E) where
-  pub those_same : (log : List (Signed E)) → those n (log ++ record { by = n; entry = t } ∷ []) ≡ those n log ++ t ∷ []
-  those_same [] = ap (λ b. cond b (t ∷ []) []) (eq-eqb n n refl)
-  those_same (y ∷ ys) = go (nat_eq y.by n) (those_same ys)
-    where
-      go : (b : Bool) → those n (ys ++ record { by = n; entry = t } ∷ []) ≡ those n ys ++ t ∷ []
-          → cond b (y.entry ∷ those n (ys ++ record { by = n; entry = t } ∷ [])) (those n (ys ++ record { by = n; entry = t } ∷ [])) ≡ cond b (y.entry ∷ those n ys) (those n ys) ++ t ∷ []
-      go true r = ap (λ l. y.entry ∷ l) r
-      go false r = r
+-- one entry more, by seat
+module _ {E : Type 0} (laws : LogLaws E) (n : ℕ) (t : E) (log : List (Signed E)) where
+  pub those_same : those n (log ++ record { by = n; entry = t } ∷ []) ≡ those n log ++ t ∷ []
+  those_same = laws.signing.those_two n log (sign n (t ∷ [])) ∙ ap (λ l. those n log ++ l) (laws.signing.those_sign n (t ∷ []))
 
-  pub those_other : (m : ℕ) → n ≢ m → (log : List (Signed E)) → those m (log ++ record { by = n; entry = t } ∷ []) ≡ those m log
-  those_other m ne [] = ap (λ b. cond b (t ∷ []) []) (ne_eqb n m ne)
-  those_other m ne (y ∷ ys) = ap (λ l. cond (nat_eq y.by m) (y.entry ∷ l) l) (those_other m ne ys)
+  pub those_other : (m : ℕ) → n ≢ m → those m (log ++ record { by = n; entry = t } ∷ []) ≡ those m log
+  those_other m ne = laws.signing.those_two m log (sign n (t ∷ [])) ∙ (ap (λ l. those m log ++ l) (laws.signing.silent_other m n ne (t ∷ [])) ∙ append-nil (those m log))
 
 -- a seat that is yet to be made took nothing
-pub those_none : {E : Type 0} (n : ℕ) (log : List (Signed E)) → AreOfSeats n log → those n log ≡ []
-those_none n [] b = refl
-those_none n (y ∷ ys) b = ap (λ t. cond t (y.entry ∷ those n ys) (those n ys)) (ne_eqb y.by n (λ e. let lt = b.0 in omega arith)) ∙ those_none n ys b.1
+pub those_none : {E : Type 0} → LogLaws E → (n : ℕ) (log : List (Signed E)) → n < nobody → AreOfSeats n log → those n log ≡ []
+those_none {E} laws n log lt seats = laws.signing.silent_below n lt log (each_map (λ (y : Signed E). y.by < n) (λ (y : Signed E). (y.by < n) ⊎ (y.by ≡ nobody)) (λ y b. inl b) log seats)
 
 module _ {T : Type 0} where
-  run_same : (g n : ℕ) (t : Taken T) → t.generation ≡ g → (log : List (Signed (Taken T))) → run g (log ++ record { by = n; entry = t } ∷ []) ≡ run g log ++ t ∷ []
-  run_same g n t e [] = ap (λ b. cond b (t ∷ []) []) (eq-eqb t.generation g e)
-  run_same g n t e (y ∷ ys) = go (nat_eq y.entry.generation g) (run_same g n t e ys)
-    where
-      go : (b : Bool) → run g (ys ++ record { by = n; entry = t } ∷ []) ≡ run g ys ++ t ∷ []
-          → cond b (y.entry ∷ run g (ys ++ record { by = n; entry = t } ∷ [])) (run g (ys ++ record { by = n; entry = t } ∷ [])) ≡ cond b (y.entry ∷ run g ys) (run g ys) ++ t ∷ []
-      go true r = ap (λ l. y.entry ∷ l) r
-      go false r = r
-
-  run_other : (g n : ℕ) (t : Taken T) → t.generation ≢ g → (log : List (Signed (Taken T))) → run g (log ++ record { by = n; entry = t } ∷ []) ≡ run g log
-  run_other g n t ne [] = ap (λ b. cond b (t ∷ []) []) (ne_eqb t.generation g ne)
-  run_other g n t ne (y ∷ ys) = ap (λ l. cond (nat_eq y.entry.generation g) (y.entry ∷ l) l) (run_other g n t ne ys)
-
-  chains_on : (p : T) (ts : List (Taken T)) (x : T) (t : Taken T) → Chains p ts x → t.entered ≡ x → Chains p (ts ++ t ∷ []) t.left
-  chains_on p [] x t c e = (e ∙ c, refl)
-  chains_on p (u ∷ us) x t c e = (c.0, chains_on u.left us x t c.1 e)
-
   -- no life has begun at this generation, so nothing was taken in it
   none_yet : (g : ℕ) (log : List (Signed (Taken T))) → AreLived g log → run g log ≡ []
   none_yet g [] y = refl
@@ -87,10 +64,10 @@ module _ {T : Type 0} where
   numbered_on k (u ∷ us) y a e = (a.0, numbered_on (suc k) us y a.1 (omega arith))
 
   -- a taking of a life that isn't over changes none that is
-  ended_on : (k g n : ℕ) (t : Taken T) (log : List (Signed (Taken T))) → t.generation ≡ g → (ls : List (Life T)) → k + length ls ≤ g → AreEnded k log ls → AreEnded k (log ++ record { by = n; entry = t } ∷ []) ls
-  ended_on k g n t log is [] le e = tt
-  ended_on k g n t log is (l ∷ ls) le e =
-      (e.0, subst (λ (ts : List (Taken T)). Chains l.planted ts l.given) (sym (run_other k n t (λ q. omega arith) log)) e.1, ended_on (suc k) g n t log is ls (omega arith) e.2)
+  ended_on : TakingLaws T → (k g n : ℕ) (t : Taken T) (log : List (Signed (Taken T))) → t.generation ≡ g → (ls : List (Life T)) → k + length ls ≤ g → AreEnded k log ls → AreEnded k (log ++ record { by = n; entry = t } ∷ []) ls
+  ended_on laws k g n t log is [] le e = tt
+  ended_on laws k g n t log is (l ∷ ls) le e =
+      (e.0, subst (λ (ts : List (Taken T)). Chains l.planted ts l.given) (sym (laws.run_other k n t log (λ q. omega arith))) e.1, ended_on laws (suc k) g n t log is ls (omega arith) e.2)
 
   -- one life more is over
   ended_more : (k g : ℕ) (log : List (Signed (Taken T))) (p x : T) (ls : List (Life T)) → k + length ls ≡ g → AreEnded k log ls → Chains p (run g log) x → AreEnded k log (ls ++ record { generation = g; planted = p; given = x } ∷ [])
@@ -101,17 +78,17 @@ module _ {T : Type 0} where
   planted_more [] l = refl
   planted_more (x ∷ xs) l = ap (λ m. planting x ∷ m) (planted_more xs l)
 
-  leads_on : (p : T) (ts : List (Taken T)) (x : Option T) (t : Taken T) → LeadsTo p ts x → x ≡ Some t.entered → Chains p (ts ++ t ∷ []) t.left
-  leads_on p ts None t l e = absurd l
-  leads_on p ts (Some y) t l e = chains_on p ts y t l (let z : y ≡ t.entered = cc in sym z)
+  leads_on : TakingLaws T → (p : T) (ts : List (Taken T)) (x : Option T) (t : Taken T) → LeadsTo p ts x → x ≡ Some t.entered → Chains p (ts ++ t ∷ []) t.left
+  leads_on laws p ts None t l e = absurd l
+  leads_on laws p ts (Some y) t l e = laws.chains_on p ts y t l (let z : y ≡ t.entered = cc in sym z)
 
-  runs_on : (stage : Stage T) (x : Option T) (ts : List (Taken T)) (t : Taken T) → IsStanding stage → Runs stage ts x → x ≡ Some t.entered → Runs stage (ts ++ t ∷ []) (Some t.left)
-  runs_on Home x ts t h r e = absurd h
-  runs_on Filling x ts t h r e = absurd h
-  runs_on (Planted p) x ts t h r e = leads_on p ts x t r e
-  runs_on (Doomed p) x ts t h r e = leads_on p ts x t r e
-  runs_on (Clear p y) x ts t h r e = absurd h
-  runs_on Spent x ts t h r e = absurd h
+  runs_on : TakingLaws T → (stage : Stage T) (x : Option T) (ts : List (Taken T)) (t : Taken T) → IsStanding stage → Runs stage ts x → x ≡ Some t.entered → Runs stage (ts ++ t ∷ []) (Some t.left)
+  runs_on laws Home x ts t h r e = absurd h
+  runs_on laws Filling x ts t h r e = absurd h
+  runs_on laws (Planted p) x ts t h r e = leads_on laws p ts x t r e
+  runs_on laws (Doomed p) x ts t h r e = leads_on laws p ts x t r e
+  runs_on laws (Clear p y) x ts t h r e = absurd h
+  runs_on laws Spent x ts t h r e = absurd h
 
   -- something leads to a value, so there is one
   led : (p : T) (ts : List (Taken T)) (x : Option T) → LeadsTo p ts x → (y : T) × (x ≡ Some y) × Chains p ts y
@@ -137,9 +114,9 @@ module _ {T : Type 0} where
 
 module _ {T : Type 0} (goes_on : T → T → Type 0) where
   -- a taking is given back
-  pub account_gives : (t : Truth T) (refs : ℕ → Option ℕ) (holder : Option ℕ) (n : ℕ) (u : Taken T) → Account goes_on t → IsStanding t.stage → n < t.given → u.number ≡ length t.log → u.generation ≡ t.gen → t.value ≡ Some u.entered → goes_on u.entered u.left
+  pub account_gives : TakingLaws T → (t : Truth T) (refs : ℕ → Option ℕ) (holder : Option ℕ) (n : ℕ) (u : Taken T) → Account goes_on t → IsStanding t.stage → n < t.given → u.number ≡ length t.log → u.generation ≡ t.gen → t.value ≡ Some u.entered → goes_on u.entered u.left
       → Account goes_on (record t { value = Some u.left; refs = refs; holder = holder; log = t.log ++ record { by = n; entry = u } ∷ [] })
-  account_gives t refs holder n u a h lt num is e grows =
+  account_gives laws t refs holder n u a h lt num is e grows =
       let b = begun_standing t.stage t.gen h in let over_is = b.0 in let begun_is = b.1 in let past = a.past in
       record {
         past = a.past;
@@ -148,8 +125,8 @@ module _ {T : Type 0} (goes_on : T → T → Type 0) where
         authors = each_snoc (λ (y : Signed (Taken T)). y.by < t.given) t.log (record { by = n; entry = u }) a.authors lt;
         lived = each_snoc (λ (y : Signed (Taken T)). y.entry.generation < begun t.stage t.gen) t.log (record { by = n; entry = u }) a.lived (omega arith);
         grows = each_snoc (λ (y : Signed (Taken T)). goes_on y.entry.entered y.entry.left) t.log (record { by = n; entry = u }) a.grows grows;
-        runs = subst (λ (ts : List (Taken T)). Runs t.stage ts (Some u.left)) (sym (run_same t.gen n u is t.log)) (runs_on t.stage t.value (run t.gen t.log) u h a.runs e);
-        ended = ended_on 0 t.gen n u t.log is t.lives (omega arith) a.ended;
+        runs = subst (λ (ts : List (Taken T)). Runs t.stage ts (Some u.left)) (sym (laws.run_same t.gen n u t.log is)) (runs_on laws t.stage t.value (run t.gen t.log) u h a.runs e);
+        ended = ended_on laws 0 t.gen n u t.log is t.lives (omega arith) a.ended;
       }
 
   -- nothing of it changes
@@ -325,9 +302,9 @@ module _ {T : Type 0} (goes_on : T → T → Type 0) where
 
 module _ {T : Type 0} where
   -- a taking by a seat that wasn't joined leaves what the joined ones took
-  pub kept_gives : (n : ℕ) (t : Taken T) (log : List (Signed (Taken T))) (plants : List (Planting T)) (lives : List (Life T)) (ks : List (Kept T)) → IsApart n ks → AreKept log plants lives ks → AreKept (log ++ record { by = n; entry = t } ∷ []) plants lives ks
-  kept_gives n t log plants lives [] a k = tt
-  kept_gives n t log plants lives (x ∷ xs) a k = ((those_other n t x.number (λ e. a.0 (sym e)) log ∙ k.0.0, k.0.1, k.0.2), kept_gives n t log plants lives xs a.1 k.1)
+  pub kept_gives : LogLaws (Taken T) → (n : ℕ) (t : Taken T) (log : List (Signed (Taken T))) (plants : List (Planting T)) (lives : List (Life T)) (ks : List (Kept T)) → IsApart n ks → AreKept log plants lives ks → AreKept (log ++ record { by = n; entry = t } ∷ []) plants lives ks
+  kept_gives laws n t log plants lives [] a k = tt
+  kept_gives laws n t log plants lives (x ∷ xs) a k = ((those_other laws n t log x.number (λ e. a.0 (sym e)) ∙ k.0.0, k.0.1, k.0.2), kept_gives laws n t log plants lives xs a.1 k.1)
 
   -- plantings and lives only come to an end
   pub kept_grows : (log : List (Signed (Taken T))) (plants plants' : List (Planting T)) (lives lives' : List (Life T)) (ks : List (Kept T)) → AreKept log plants lives ks → AreKept log (plants ++ plants') (lives ++ lives') ks

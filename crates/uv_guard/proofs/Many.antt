@@ -105,6 +105,7 @@ module _ {T : Type 0} where
   fresh_seated n ts k = record {
     number = n;
     guard = (map_map (λ (p : PlacedSeat T). p.cell) (fresh_place n) ts ∙ map_self ts) k;
+    found = (map_map (λ (p : PlacedSeat T). p.found) (fresh_place n) ts ∙ map_replicate (λ (t : TableId). []) [] (λ t. refl) ts) k;
     held = (map_map (λ (p : PlacedSeat T). p.held) (fresh_place n) ts ∙ map_replicate (λ (t : TableId). None) None (λ t. refl) ts) k;
     took = (map_map (λ (p : PlacedSeat T). p.took) (fresh_place n) ts ∙ map_replicate (λ (t : TableId). []) [] (λ t. refl) ts) k;
     met = (map_map (λ (p : PlacedSeat T). p.met) (fresh_place n) ts ∙ map_replicate (λ (t : TableId). met_none) met_none (λ t. refl) ts) k;

@@ -17,17 +17,20 @@ use Rattle.uv_order.specs.declared.signed.Signed.{Signed}
 use Rattle.uv_order.specs.declared.taken.Taken.{Taken}
 use Rattle.uv_guard.specs.declared.life.Stage.{Stage}
 use Rattle.uv_guard.specs.declared.life.Stage.TheVariants.{Home, Filling, Planted, Doomed, Clear, Spent}
+use Rattle.uv_guard.specs.declared.view.Found.{Found}
 use Rattle.uv_guard.specs.declared.view.Held.{Held}
 use Rattle.uv_guard.specs.declared.view.View.{View}
 use Rattle.uv_guard.specs.declared.view.Role.TheVariants.{Taker}
 use Rattle.uv_order.specs.Takings.{run}
+use Rattle.uv_order.specs.Laws.{LogLaws, TakingLaws}
 use Rattle.uv_guard.specs.Lives.{flags, IsStanding, IsAfter}
 use Rattle.uv_guard.specs.Rule.{Truth, Lies, IsGuarded, turns}
-use Rattle.uv_guard.specs.Steps.{Sat, referred, unreferred, turned, gave, taking}
+use Rattle.uv_guard.specs.Words.{found_at, life_word, turn_word}
+use Rattle.uv_guard.specs.Steps.{Sat, finding, finding_more, referred, unreferred, turned, gave, taking}
 use Rattle.uv_guard.proofs.Put.{put, put_here, put_else, put_at}
 use Rattle.uv_guard.proofs.Bits.{or_keeps, or_sets, or_low_top, and_clear_top}
 use Rattle.uv_guard.proofs.Logs.{those_same, those_other, length_more, has_value, account_gives, account_keeps, kept_gives, value_goes}
-use Rattle.uv_guard.proofs.Frames.{St, seat_moves, stays}
+use Rattle.uv_guard.proofs.Frames.{St, seat_moves, finds}
 
 module _ {T : Type 0} where
   -- only a planted cell has the flags of a live one
@@ -81,12 +84,12 @@ same_nat k k' e = cc
 
 module _ {T : Type 0} (goes_on : T → T → Type 0) where
   -- a step of a seat on the life word, after which it refers to y
-  on_life : (s : St T) (r : IsGuarded goes_on s) (id : ℕ) (v : View T) (x : ℕ) (y : Option ℕ) → get_elem? s.views id ≡ some v → v.role ≡ Taker → v.entered ≡ None
+  on_life : (s : St T) (r : IsGuarded goes_on s) (id : ℕ) (v : View T) (x : ℕ) (y : Option ℕ) (f : List Found) → get_elem? s.views id ≡ some v → v.role ≡ Taker → v.entered ≡ None
       → x / 4294967296 ≡ 4 * r.truth.gen + flags r.truth.stage → ((m : ℕ) → m ≢ v.number → m < 32 → bit_at (get_or s.words 0 0) m ≡ 1 → bit_at x m ≡ 1) → ((g : ℕ) → y ≡ Some g → (g ≡ r.truth.gen) × (bit_at x v.number ≡ 1) × IsStanding r.truth.stage)
-      → IsGuarded goes_on record { words = set s.words 0 x; homes = s.homes; views = set s.views id (record v { refers = y }) }
-  on_life s r id v x y at is out top kept ours =
+      → IsGuarded goes_on record { words = set s.words 0 x; homes = s.homes; views = set s.views id (record v { refers = y; found = f }) }
+  on_life s r id v x y f at is out top kept ours =
       let t : Truth T = r.truth in
-      let mine = r.each_seat id v at in let n : ℕ = v.number in let w : View T = record v { refers = y } in let refs' : ℕ → Option ℕ = put t.refs n y in
+      let mine = r.each_seat id v at in let n : ℕ = v.number in let w : View T = record v { refers = y; found = f } in let refs' : ℕ → Option ℕ = put t.refs n y in
       let word : get_or (set s.words 0 x) 0 0 ≡ x = get_or-set_same s.words 0 x 0 (let e = r.two_words in omega arith) in
       let free : t.holder ≢ Some n = mine.idle is out in
       let few = r.few in
@@ -131,17 +134,17 @@ module _ {T : Type 0} (goes_on : T → T → Type 0) where
       let ours : bit_at (bit_or x k) n ≡ 1 = ap (λ y. bit_at (bit_or x y) n) is ∙ or_sets x n in
       ⊎_elim
       (λ (live : IsStanding t.stage). (
-        record v { refers = Some t.gen },
+        record v { refers = Some t.gen; found = life_word x ∷ [] },
         keeps,
         tt,
-        on_life s r id v (bit_or x k) (Some t.gen) at num out top kept (λ g e. (sym (same_nat t.gen g e), ours, live)),
+        on_life s r id v (bit_or x k) (Some t.gen) (life_word x ∷ []) at num out top kept (λ g e. (sym (same_nat t.gen g e), ours, live)),
         (Some t.gen, refl, λ g e. ap (λ z. Some z) (is_live t.stage t.gen g (sym r.top_is ∙ e))),
       ))
       (λ (dead : (gen g : ℕ) → 4 * gen + flags t.stage ≢ 4 * g + 1). (
-        record v { refers = None },
+        record v { refers = None; found = life_word x ∷ [] },
         keeps,
         tt,
-        on_life s r id v (bit_or x k) None at num out top kept (λ g e. absurd cc),
+        on_life s r id v (bit_or x k) None (life_word x ∷ []) at num out top kept (λ g e. absurd cc),
         (None, refl, λ g e. absurd (dead t.gen g (sym r.top_is ∙ e))),
       ))
       (live_or_not t.stage)
@@ -155,12 +158,15 @@ module _ {T : Type 0} (goes_on : T → T → Type 0) where
         record v { refers = None },
         keeps,
         tt,
-        on_life s r id v (bit_and x k) None at num out (and_clear_top x n fits low ∙ r.top_is) (λ m ne lt b. bit_at_clear_other w64 x n (omega arith) m (omega arith) ne ∙ b) (λ g e. absurd cc),
+        on_life s r id v (bit_and x k) None v.found at num out (and_clear_top x n fits low ∙ r.top_is) (λ m ne lt b. bit_at_clear_other w64 x n (omega arith) m (omega arith) ne ∙ b) (λ g e. absurd cc),
         refl,
       ))
 
-  pub reads : (slots id i : ℕ) (me : Sat T) → Allows (IsGuarded goes_on) slots id me i (λ n. n) (λ _ m'. m' ≡ me)
-  reads slots id i me s r wide at _ = (me.0, keeps, tt, stays goes_on s r i id me.0 at, refl)
+  pub reads : (slots id i : ℕ) (me : Sat T) → Allows (IsGuarded goes_on) slots id me i (λ n. n) (λ n m'. m' ≡ finding_more me (found_at i n))
+  reads slots id i me s r wide at _ = let ws : List Found = me.0.found ++ found_at i (get_or s.words i 0) ∷ [] in (record me.0 { found = ws }, keeps, tt, finds goes_on s r i id me.0 ws at, refl)
+
+  pub sees : (slots id i : ℕ) (me : Sat T) → Allows (IsGuarded goes_on) slots id me i (λ n. n) (λ n m'. m' ≡ finding me (found_at i n ∷ []))
+  sees slots id i me s r wide at _ = let ws : List Found = found_at i (get_or s.words i 0) ∷ [] in (record me.0 { found = ws }, keeps, tt, finds goes_on s r i id me.0 ws at, refl)
 
   abbrev Goes : St T → ℕ → ℕ → Sat T → (ℕ → Sat T → Type 0) → ℕ → Type 0
   Goes s i id me then x = (w : View T) × (a : Act (Option T)) × Valid s.homes me.1 a × IsGuarded goes_on (stepped s i x id me.1 w a) × then (get_or s.words i 0) (w, carried_after me.1 a)
@@ -213,9 +219,9 @@ module _ {T : Type 0} (goes_on : T → T → Type 0) where
                   owns = λ p. absurd (cc (num, p));
                 };
           },
-          ((λ _. (h, refl, sym (mine.refers_is num) ∙ refs_gen, subst (λ (l : List (Taken T)). IsAfter goes_on t.gen l y) (sym (mine.took_is num)) known.0, known.1)), λ miss. absurd (miss hit)),
+          ((λ _. (h, refl, sym (mine.refers_is num) ∙ refs_gen, subst (λ (l : List (Taken T)). IsAfter goes_on t.gen l y) (sym (mine.took_is num)) known.0, known.1, r.turn_is ∙ ap (λ z. turns z (length t.log) % 18446744073709551616) none_has)), λ miss. absurd (miss hit)),
         ))
-        (λ miss. (v, keeps, tt, stays goes_on s r 1 id v at, ((λ hit. absurd (miss hit)), λ _. refl)))
+        (λ miss. (record v { found = v.found ++ turn_word x ∷ [] }, keeps, tt, finds goes_on s r 1 id v (v.found ++ turn_word x ∷ []) at, ((λ hit. absurd (miss hit)), λ _. refl)))
 
   head_of : (c : List (ℕ × Option T)) (i : ℕ) (a b : Option T) → c ≡ (i, a) ∷ [] → c ≡ (i, b) ∷ [] → a ≡ b
   head_of c i a b p q = let e : (i, a) ≡ (i, b) = cc in ap (λ (z : ℕ × Option T). z.1) e
@@ -230,8 +236,8 @@ module _ {T : Type 0} (goes_on : T → T → Type 0) where
       ap (λ z. (z + 1) % 18446744073709551616) (e ∙ ap (λ z. turns z l % 18446744073709551616) is) ∙ (mod-add-mod c 18446744073709551616 1 ∙ ap (λ z. z % 18446744073709551616) (let z : c + 1 ≡ 2 * l' = omega arith in z))
 
   -- the seat with the turn gives the value back
-  pub gives_back : (slots id : ℕ) (me : Sat T) (h : Held T) (y : T) → me.0.entered ≡ Some h → me.1 ≡ (0, Some y) ∷ [] → goes_on h.value y → Allows (IsGuarded goes_on) slots id me 1 (λ n. (n + 1) % 2 ^ 64) (λ _ m'. gave me m')
-  gives_back slots id me h y has out grows s r wide at _ =
+  pub gives_back : LogLaws (Taken T) → TakingLaws T → (slots id : ℕ) (me : Sat T) (h : Held T) (y : T) → me.0.entered ≡ Some h → me.1 ≡ (0, Some y) ∷ [] → goes_on h.value y → Allows (IsGuarded goes_on) slots id me 1 (λ n. (n + 1) % 2 ^ 64) (λ _ m'. gave me m')
+  gives_back logs takings slots id me h y has out grows s r wide at _ =
       let t : Truth T = r.truth in
       let v : View T = me.0 in let mine = r.each_seat id v at in let n : ℕ = v.number in
       let k = mine.entered_is h has in let num = k.1 in let holder_is = k.2 in
@@ -245,8 +251,8 @@ module _ {T : Type 0} (goes_on : T → T → Type 0) where
         tt,
         subst (λ (hs : List (maybe.Option (Option T))). IsGuarded goes_on record { words = set s.words 1 ((get_or s.words 1 0 + 1) % 2 ^ 64); homes = hs; views = set s.views id w }) (sym back) record {
           truth = record t { value = Some y; holder = None; log = log' };
-          account = account_gives goes_on t t.refs None n u r.account stands (mine.below num) k.3 k.4 k.0 grows;
-          fits = kept_gives n u t.log t.plants t.lives t.kept (mine.apart num) r.fits;
+          account = account_gives goes_on takings t t.refs None n u r.account stands (mine.below num) k.3 k.4 k.0 grows;
+          fits = kept_gives logs n u t.log t.plants t.lives t.kept (mine.apart num) r.fits;
           two_words = length-set s.words 1 _ ∙ r.two_words;
           one_slot = length-set s.homes 0 _ ∙ r.one_slot;
           few = r.few;
@@ -255,14 +261,14 @@ module _ {T : Type 0} (goes_on : T → T → Type 0) where
           odd = λ m e. absurd cc;
           refers = λ m g e. let o = r.refers m g e in (o.0, o.1, ap (λ z. bit_at z m) (get_or-set_other s.words 1 0 _ 0 (λ e. omega arith)) ∙ o.2, o.3);
           lies = λ _. lies_back t.stage (set s.homes 0 (some (Some y))) (Some y) stands (set_here s.homes 0 (some (Some y)) (let o = r.one_slot in omega arith));
-          each_seat = seat_moves goes_on s r id v w (Some y) t.refs None log' at num (λ m ne. those_other n u m (λ q. ne (sym q)) t.log) (λ m _. refl) (λ m ne e. absurd (ne (sym (same_nat n m (sym holder_is ∙ e))))) (λ m ne e. absurd cc)
+          each_seat = seat_moves goes_on s r id v w (Some y) t.refs None log' at num (λ m ne. those_other logs n u t.log m (λ q. ne (sym q))) (λ m _. refl) (λ m ne e. absurd (ne (sym (same_nat n m (sym holder_is ∙ e))))) (λ m ne e. absurd cc)
               record {
                 below = mine.below;
                 chair_is = mine.chair_is;
                 refers_is = mine.refers_is;
                 idle = λ _ _ e. absurd cc;
                 entered_is = λ y e. absurd cc;
-                took_is = λ _. ap (λ (l : List (Taken T)). l ++ u ∷ []) (mine.took_is num) ∙ sym (those_same n u t.log);
+                took_is = λ _. ap (λ (l : List (Taken T)). l ++ u ∷ []) (mine.took_is num) ∙ sym (those_same logs n u t.log);
                 apart = mine.apart;
                 told_plants = mine.told_plants;
                 told_lives = mine.told_lives;

@@ -1,5 +1,5 @@
 -- What all seats together did with a cell, as the end of a guard tells it.
-use Rattle.std.specs.Prelude.{◌≡◌, ◌⊎◌, ℕ, List, length, map}
+use Rattle.std.specs.Prelude.{◌≡◌, ◌⊎◌, ℕ, List, length, map, slice_get, Some}
 use Rattle.uv_order.specs.declared.signed.Signed.{Signed}
 use Rattle.uv_order.specs.declared.taken.Taken.{Taken}
 use Rattle.uv_order.specs.Signed.{AreOfSeats}
@@ -8,8 +8,7 @@ use Rattle.uv_guard.specs.declared.life.Stage.TheVariants.{Home, Spent}
 use Rattle.uv_guard.specs.declared.life.Planting.{Planting}
 use Rattle.uv_guard.specs.declared.life.Life.{Life}
 use Rattle.uv_guard.specs.declared.view.Kept.{Kept}
-use Rattle.uv_num.specs.Each.{Each}
-use Rattle.uv_guard.specs.Seated.{Seated, Deeded, all_joined}
+use Rattle.uv_guard.specs.Seated.{Seated, Deeded, kept_at}
 use Rattle.uv_guard.specs.Lives.{planting, AreKept, AreNumbered, AreLived, Grows, AreEnded}
 
 module _ {T : Type 0} where
@@ -34,6 +33,6 @@ module _ {T : Type 0} (goes_on : T → T → Type 0) where
   abbrev pub IsBalanced : Deeded T → Type 0
   IsBalanced d = Balanced goes_on d.seats d.plants d.lives d.kept
 
-  -- what all the seats did, cell by cell
+  -- what all the seats did with each cell: the deeds stand in the order of the cells
   abbrev pub AreBalanced : List (Seated T) → List (Deeded T) → Type 0
-  AreBalanced seats deeds = Each IsBalanced (all_joined deeds seats)
+  AreBalanced seats deeds = (i : ℕ) (d : Deeded T) → slice_get deeds i ≡ Some d → Balanced goes_on d.seats d.plants d.lives (map (kept_at i) seats)

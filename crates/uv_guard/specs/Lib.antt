@@ -1,4 +1,5 @@
 pub mod Lives
+pub mod Words
 pub mod Rule
 pub mod Steps
 pub mod Calls
@@ -6,3 +7,5 @@ pub mod Seated
 pub mod Closed
 pub mod Entries
 pub mod Cells
+pub mod Registers
+pub mod Laws

@@ -9,6 +9,7 @@ use lib.ListN.{get_elem?}
 use Rattle.atomic_table.specs.Table.{State}
 use Rattle.uv_num.specs.Prefix.{IsPrefix}
 use Rattle.uv_order.specs.declared.signed.Signed.{Signed}
+use Rattle.uv_order.specs.declared.signed.TheConstants.{SEATS}
 use Rattle.uv_order.specs.declared.taken.Taken.{Taken}
 use Rattle.uv_guard.specs.declared.life.Stage.{Stage}
 use Rattle.uv_guard.specs.declared.life.Stage.TheVariants.{Home, Filling, Planted, Doomed, Clear, Spent}
@@ -99,7 +100,7 @@ module _ {T : Type 0} where
     pub fits : AreKept truth.log truth.plants truth.lives truth.kept
     pub two_words : length s.words ≡ 2
     pub one_slot : length s.homes ≡ 1
-    pub few : truth.given ≤ 32
+    pub few : truth.given ≤ SEATS
     pub top_is : slice_index s.words 0 / 4294967296 ≡ 4 * truth.gen + flags truth.stage
     pub turn_is : slice_index s.words 1 ≡ turns truth.holder (length truth.log) % 18446744073709551616
     pub odd : (n : ℕ) → truth.holder ≡ Some n → truth.refs n ≡ Some truth.gen

@@ -2,12 +2,14 @@
 use Rattle.std.specs.Prelude.{Bool, true, false, ◌≡◌, ◌⊎◌, ℕ, zero, suc, ◌<◌, ◌≤◌, List, [], ◌∷◌, ◌++◌, length, map, replicate, slice_set, slice_get, slice_index_or, Option, Some, None}
 use Rattle.atomic_table.specs.Seated.{TableId}
 use Rattle.atomic_table.specs.declared.shared.Seat.{Seat}
+use Rattle.uv_num.specs.declared.limits.TheConstants.{CELLS}
 use Rattle.uv_num.specs.Each.{Each}
 use Rattle.uv_order.specs.declared.taken.Taken.{Taken}
 use Rattle.uv_guard.specs.declared.life.Stage.{Stage}
 use Rattle.uv_guard.specs.declared.life.Stage.TheVariants.{Home, Filling, Planted, Doomed, Clear, Spent}
 use Rattle.uv_guard.specs.declared.life.Planting.{Planting}
 use Rattle.uv_guard.specs.declared.life.Life.{Life}
+use Rattle.uv_guard.specs.declared.view.Found.{Found}
 use Rattle.uv_guard.specs.declared.view.Held.{Held}
 use Rattle.uv_guard.specs.declared.view.View.{View}
 use Rattle.uv_guard.specs.declared.view.Kept.{Kept}
@@ -24,14 +26,16 @@ pub record Met (T : Type 0) : Type 0 where
 pub record PlacedSeat (T : Type 0) : Type 0 where
   pub cell : TableId
   pub number : ℕ
+  pub found : List Found
   pub held : Option (Held T)
   pub took : List (Taken T)
   pub met : Met T
 
--- A seat of a guard. The lists go by cell: what it holds there, what it took and gave back, and what it was told.
+-- A seat of a guard. The lists go by cell: the words that it found there at its last call, what it holds there, what it took and gave back, and what it was told.
 pub record Seated (T : Type 0) : Type 0 where
   pub number : ℕ
   pub guard : List TableId
+  pub found : List (List Found)
   pub held : List (Option (Held T))
   pub took : List (List (Taken T))
   pub met : List (Met T)
@@ -64,14 +68,14 @@ module _ {T : Type 0} where
   met_of v = record { plants = v.plants; lives = v.lives }
 
   abbrev pub placed : Seat (Option T) (View T) → PlacedSeat T
-  placed c = record { cell = c.table_id; number = c.me.0.number; held = c.me.0.entered; took = c.me.0.took; met = met_of c.me.0 }
+  placed c = record { cell = c.table_id; number = c.me.0.number; found = c.me.0.found; held = c.me.0.entered; took = c.me.0.took; met = met_of c.me.0 }
 
   -- a seat out of the cell, or in it
   abbrev pub IsPlaced : ℕ → Sat T → Type 0
   IsPlaced n m = IsOut n m ⊎ ((h : Held T) × IsIn n h m)
 
   abbrev pub seated : ℕ → List (PlacedSeat T) → Seated T
-  seated n ps = record { number = n; guard = map (λ (p : PlacedSeat T). p.cell) ps; held = map (λ (p : PlacedSeat T). p.held) ps; took = map (λ (p : PlacedSeat T). p.took) ps; met = map (λ (p : PlacedSeat T). p.met) ps }
+  seated n ps = record { number = n; guard = map (λ (p : PlacedSeat T). p.cell) ps; found = map (λ (p : PlacedSeat T). p.found) ps; held = map (λ (p : PlacedSeat T). p.held) ps; took = map (λ (p : PlacedSeat T). p.took) ps; met = map (λ (p : PlacedSeat T). p.met) ps }
 
   -- the places of one seat
   abbrev pub AreOwn : ℕ → List (PlacedSeat T) → Type 0
@@ -90,7 +94,11 @@ module _ {T : Type 0} where
 
   -- a deed between its calls
   abbrev pub IsDeed : ℕ → ℕ → Bool → Sat T → Type 0
-  IsDeed i g spent m = (i < 64) × (g ≤ last) × (m.0.role ≡ Owner) × (m.0.generation ≡ g) × (is_spent m.0.stage ≡ spent) × (m.1 ≡ [])
+  IsDeed i g spent m = (i < CELLS) × (g ≤ last) × (m.0.role ≡ Owner) × (m.0.generation ≡ g) × (is_spent m.0.stage ≡ spent) × (m.1 ≡ [])
+
+  -- the seat after a call that found these words at a cell
+  abbrev pub finds : Seated T → ℕ → List Found → Seated T
+  finds s i ws = record s { found = slice_set s.found i ws }
 
   -- the seat after it entered a cell
   abbrev pub inside : Seated T → ℕ → Held T → Seated T
@@ -154,10 +162,10 @@ module _ {T : Type 0} where
 
   -- seats and deeds as they are made
   abbrev pub fresh_place : ℕ → TableId → PlacedSeat T
-  fresh_place n t = record { cell = t; number = n; held = None; took = []; met = met_none }
+  fresh_place n t = record { cell = t; number = n; found = []; held = None; took = []; met = met_none }
 
   abbrev pub fresh_seat : List TableId → ℕ → Seated T
-  fresh_seat guard n = record { number = n; guard = guard; held = replicate (length guard) None; took = replicate (length guard) []; met = replicate (length guard) met_none }
+  fresh_seat guard n = record { number = n; guard = guard; found = replicate (length guard) []; held = replicate (length guard) None; took = replicate (length guard) []; met = replicate (length guard) met_none }
 
   -- so many seats, from number n on
   abbrev pub fresh_seats : List TableId → ℕ → ℕ → List (Seated T)
@@ -201,6 +209,10 @@ module _ {T : Type 0} where
   abbrev pub all_joined : List (Deeded T) → List (Seated T) → List (Deeded T)
   all_joined ds [] = ds
   all_joined ds (s ∷ ss) = joined_with (all_joined ds ss) (kepts s)
+
+  -- a seat that knows something of each cell of its guard, if only that nothing happened there
+  abbrev pub IsWide : Seated T → Type 0
+  IsWide s = (length s.took ≡ length s.guard) × (length s.met ≡ length s.guard)
 
   -- a seat of the guard that is in no cell
   abbrev pub IsOutside : List TableId → Seated T → Type 0

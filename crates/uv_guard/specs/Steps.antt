@@ -1,14 +1,17 @@
 -- What each step of a cell makes of a view, and what it tells.
-use Rattle.std.specs.Prelude.{◌≡◌, ◌≢◌, ℕ, suc, ◌+◌, ◌*◌, ◌/◌, ◌%◌, [], ◌∷◌, ◌++◌, cond, nat_eq, Option, Some, None}
+use Rattle.std.specs.Prelude.{◌≡◌, ◌≢◌, ℕ, suc, ◌%◌, List, [], ◌∷◌, ◌++◌, cond, nat_eq, Option, Some, None}
 use Rattle.atomic_table.specs.Table.{Me, Step}
+use Rattle.uv_num.specs.declared.limits.TheConstants.{MOST_GENERATION}
 use Rattle.uv_order.specs.declared.taken.Taken.{Taken}
 use Rattle.uv_guard.specs.declared.life.Stage.{Stage}
 use Rattle.uv_guard.specs.declared.life.Stage.TheVariants.{Home, Filling, Planted, Doomed, Clear, Spent}
+use Rattle.uv_guard.specs.declared.view.Found.{Found}
 use Rattle.uv_guard.specs.declared.view.Held.{Held}
 use Rattle.uv_guard.specs.declared.view.Kept.{Kept}
 use Rattle.uv_guard.specs.declared.view.View.{View}
 use Rattle.uv_guard.specs.declared.view.Role.TheVariants.{Taker, Owner, Gone}
 use Rattle.uv_guard.specs.Lives.{IsAfter, IsOf}
+use Rattle.uv_guard.specs.Words.{found_at, life_word, IsLive, IsTurn}
 
 -- a view, and the slot if it is out
 abbrev pub Sat : Type 0 → Type 0
@@ -16,7 +19,7 @@ Sat T = Me (Option T) (View T)
 
 -- the last generation
 abbrev pub last : ℕ
-last = 1073741823
+last = MOST_GENERATION
 
 -- the generation that bury writes
 abbrev pub generation_after : ℕ → ℕ
@@ -32,17 +35,17 @@ module _ {T : Type 0} where
 
   -- the views that are made: of the deed, of a seat, and of nobody
   abbrev pub first_view : View T
-  first_view = record { role = Owner; number = 0; refers = None; entered = None; took = []; plants = []; lives = []; stage = Home; generation = 0; given = 0; kept = [] }
+  first_view = record { role = Owner; number = 0; refers = None; entered = None; found = []; took = []; plants = []; lives = []; stage = Home; generation = 0; given = 0; kept = [] }
 
   abbrev pub seat_view : ℕ → View T
-  seat_view n = record { role = Taker; number = n; refers = None; entered = None; took = []; plants = []; lives = []; stage = Home; generation = 0; given = 0; kept = [] }
+  seat_view n = record { role = Taker; number = n; refers = None; entered = None; found = []; took = []; plants = []; lives = []; stage = Home; generation = 0; given = 0; kept = [] }
 
   abbrev pub gone_view : View T
-  gone_view = record { role = Gone; number = 0; refers = None; entered = None; took = []; plants = []; lives = []; stage = Home; generation = 0; given = 0; kept = [] }
+  gone_view = record { role = Gone; number = 0; refers = None; entered = None; found = []; took = []; plants = []; lives = []; stage = Home; generation = 0; given = 0; kept = [] }
 
   -- who tells what the deed knows of the cell's lives
   abbrev pub teller : View T → View T
-  teller v = record { role = Gone; number = 0; refers = None; entered = None; took = []; plants = v.plants; lives = v.lives; stage = Home; generation = 0; given = 0; kept = [] }
+  teller v = record { role = Gone; number = 0; refers = None; entered = None; found = []; took = []; plants = v.plants; lives = v.lives; stage = Home; generation = 0; given = 0; kept = [] }
 
   abbrev pub told_by : View T → View T → View T
   told_by v w = record v { plants = w.plants; lives = w.lives }
@@ -58,7 +61,15 @@ module _ {T : Type 0} where
 
   -- the seat refers to the generation that was found live
   abbrev pub referred : Sat T → ℕ → Sat T → Type 0
-  referred m n m' = (r : Option ℕ) × (m' ≡ (record m.0 { refers = r }, m.1)) × ((g : ℕ) → n / 4294967296 ≡ 4 * g + 1 → r ≡ Some g)
+  referred m n m' = (r : Option ℕ) × (m' ≡ (record m.0 { refers = r; found = life_word n ∷ [] }, m.1)) × ((g : ℕ) → IsLive g n → r ≡ Some g)
+
+  -- a seat that found these words
+  abbrev pub finding : Sat T → List Found → Sat T
+  finding m ws = (record m.0 { found = ws }, m.1)
+
+  -- a seat that found this word too
+  abbrev pub finding_more : Sat T → Found → Sat T
+  finding_more m w = finding m (m.0.found ++ w ∷ [])
 
   abbrev pub unreferred : Sat T → Sat T → Type 0
   unreferred m m' = m' ≡ (record m.0 { refers = None }, m.1)
@@ -66,8 +77,8 @@ module _ {T : Type 0} where
   -- the seat has the turn where it found the number, and with it a value that goes on from all that it knows of this life
   abbrev pub turned : (T → T → Type 0) → Step (Option T) → Sat T → ℕ → Sat T → Type 0
   turned goes_on st m n m' =
-      (n ≡ st.first → (h : Held T) × (m' ≡ (record m.0 { entered = Some h }, (0, Some h.value) ∷ m.1)) × (m.0.refers ≡ Some h.generation) × IsAfter goes_on h.generation m.0.took h.value × IsOf goes_on h.generation m.0.plants h.value)
-      × (n ≢ st.first → m' ≡ m)
+      (n ≡ st.first → (h : Held T) × (m' ≡ (record m.0 { entered = Some h }, (0, Some h.value) ∷ m.1)) × (m.0.refers ≡ Some h.generation) × IsAfter goes_on h.generation m.0.took h.value × IsOf goes_on h.generation m.0.plants h.value × IsTurn h.number n)
+      × (n ≢ st.first → m' ≡ finding_more m (found_at st.word n))
 
   abbrev pub gave : Sat T → Sat T → Type 0
   gave m m' = (h : Held T) (y : T) → m.0.entered ≡ Some h → m.1 ≡ (0, Some y) ∷ [] → m' ≡ (record m.0 { entered = None; took = m.0.took ++ taking h y ∷ [] }, [])

@@ -4,13 +4,16 @@ ghost use Rattle.std.specs.Prelude.{◌≡◌, ◌≢◌, ℕ, ◌+◌, ◌<◌,
 ghost use Rattle.uv_guard.specs.declared.view.Held.{Held};
 ghost use Rattle.uv_guard.specs.declared.view.Role.TheVariants.{Taker, Owner};
 ghost use Rattle.uv_guard.specs.declared.life.Stage.TheVariants.{Home, Planted, Doomed, Clear};
-ghost use Rattle.uv_guard.specs.Steps.{last, generation_after, first_view, seat_view, one_given, told_by, with_kept, kept_of, buried_view};
+ghost use Rattle.uv_guard.specs.Steps.{last, finding, generation_after, first_view, seat_view, one_given, told_by, with_kept, kept_of, buried_view};
+ghost use Rattle.uv_guard.specs.Words.{life_word};
 ghost use Rattle.uv_guard.specs.Closed.{IsAtRest, Balanced};
+ghost use Rattle.uv_order.specs.declared.signed.TheConstants.{SEATS};
 ghost use Rattle.uv_guard.specs.Calls.{IsSame, IsOut, IsIn, IsAt, ChairEnters, came_out, Retires};
 
 use crate::celled::Celled;
 use crate::plays::{
-    Bury, Doom, Fill, Further, Give, Guarded, Look, Plant, Read, Refer, Tell, Turn, Unrefer, Whole,
+    Bury, Doom, Fill, Further, Give, Guarded, Look, Plant, Read, Refer, See, Tell, Turn, Unrefer,
+    Whole,
 };
 use crate::view::View;
 use atomic_table::{Seat, Table};
@@ -18,6 +21,7 @@ use std::alloc::{AllocError, Global};
 use std::sync::Wait;
 use std::thread;
 use uv_num::MOST_GENERATION;
+use uv_order::{Taken, log_laws, taking_laws};
 
 pub type Chair<T> = Seat<Option<T>, View<T>>;
 
@@ -54,11 +58,12 @@ impl<T: Celled> Cell<T> {
     /// Makes the next seat.
     pub fn fork(&self, deed: &mut Chair<T>) -> Chair<T>
         requires cell { deed.old.table_id ≡ self.now.table.shared.table_id }
-        requires deed { (deed.old.me.0.role ≡ Owner) × (deed.old.me.0.kept ≡ []) × (deed.old.me.0.given < 32) }
+        requires deed { (deed.old.me.0.role ≡ Owner) × (deed.old.me.0.kept ≡ []) × (deed.old.me.0.given < SEATS) }
         ensures same { IsSame deed.old deed.new }
         ensures deed { deed.new.me ≡ (one_given deed.old.me.0, deed.old.me.1) }
         ensures seat { (result.table_id ≡ self.now.table.shared.table_id) × (result.me ≡ (seat_view deed.old.me.0.given, [])) }
     {
+        log_laws::<Taken<T>>();
         self.table.shared.split_seat::<Further>(deed)
     }
 
@@ -66,14 +71,14 @@ impl<T: Celled> Cell<T> {
     pub fn look(&self, chair: &mut Chair<T>) -> u64
         requires cell { chair.old.table_id ≡ self.now.table.shared.table_id }
         ensures same { IsSame chair.old chair.new }
-        ensures view { chair.new.me ≡ chair.old.me }
+        ensures view { chair.new.me ≡ finding chair.old.me (life_word result ∷ []) }
     {
-        self.table.shared.load::<Read>(chair, 0)
+        self.table.shared.load::<See>(chair, 0)
     }
 
     fn unrefer(&self, number: u32, chair: &mut Chair<T>)
         requires cell { chair.old.table_id ≡ self.now.table.shared.table_id }
-        requires seat { (chair.old.me.0.role ≡ Taker) × (chair.old.me.0.number ≡ number) × (number < 32) × (chair.old.me.0.entered ≡ None) }
+        requires seat { (chair.old.me.0.role ≡ Taker) × (chair.old.me.0.number ≡ number) × (number < SEATS) × (chair.old.me.0.entered ≡ None) }
         ensures same { IsSame chair.old chair.new }
         ensures view { chair.new.me ≡ (record chair.old.me.0 { refers = None }, chair.old.me.1) }
     {
@@ -118,6 +123,8 @@ impl<T: Celled> Cell<T> {
         ensures same { IsSame chair.old chair.new }
         ensures view { (h : Held T) → chair.old.me.0.entered ≡ Some h → chair.new.me ≡ came_out chair.old.me h value }
     {
+        log_laws::<Taken<T>>();
+        taking_laws::<T>();
         let shared = &self.table.shared;
         match shared.exchange(chair, 0, Some(value)) {
             None => {}

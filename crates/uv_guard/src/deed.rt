@@ -3,6 +3,8 @@
 ghost use Rattle.std.specs.Prelude.{◌≡◌, ◌<◌, ◌≤◌, ℕ, suc, [], ◌∷◌, ◌++◌, Some, None, true, false};
 ghost use Rattle.uv_guard.specs.declared.life.Stage.TheVariants.{Home, Planted, Doomed};
 ghost use Rattle.uv_guard.specs.Steps.{first_view, last};
+ghost use Rattle.uv_num.specs.declared.limits.TheConstants.{CELLS};
+ghost use Rattle.uv_order.specs.declared.signed.TheConstants.{SEATS};
 ghost use Rattle.uv_guard.specs.Seated.{Deeded, deeded, is_spent, planted_with, doomed_deed, buried_deed, fresh_deed, fresh_place, add_kept, kept_by};
 ghost use Rattle.uv_guard.specs.Closed.{IsAtRest, IsBalanced};
 
@@ -36,7 +38,7 @@ impl<T: Celled> Model for GuardDeed<T> {
 impl<T: Celled> GuardDeed<T> {
     /// The deed of a cell that was just made.
     pub(crate) fn of(index: u32, chair: Chair<T>) -> GuardDeed<T>
-        requires { (index < 64) × (chair.me ≡ (first_view, [])) }
+        requires { (index < CELLS) × (chair.me ≡ (first_view, [])) }
         ensures { result ≡ fresh_deed 0 (index, chair.table_id) }
     {
         GuardDeed {
@@ -50,7 +52,7 @@ impl<T: Celled> GuardDeed<T> {
     /// The index of the cell in its guard, below `CELLS`.
     pub fn index(&self) -> u32
         ensures index { result ≡ self.now.index }
-        ensures within { result < 64 }
+        ensures within { result < CELLS }
     {
         self.index
     }
@@ -73,7 +75,7 @@ impl<T: Celled> GuardDeed<T> {
     /// Makes the next seat at the cell.
     pub(crate) fn fork(&mut self, cell: &Cell<T>, number: u32) -> Place<T>
         requires cell { self.old.cell ≡ cell.now.table.shared.table_id }
-        requires number { (self.old.seats ≡ number) × (number < 32) × (self.old.kept ≡ []) }
+        requires number { (self.old.seats ≡ number) × (number < SEATS) × (self.old.kept ≡ []) }
         ensures deed { self.new ≡ record self.old { seats = suc self.old.seats } }
         ensures place { result ≡ fresh_place number self.old.cell }
     {

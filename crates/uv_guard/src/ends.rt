@@ -3,7 +3,7 @@
 ghost use Rattle.std.specs.Prelude.{◌≡◌, ◌<◌, ℕ, [], length};
 ghost use Rattle.uv_num.specs.Each.{Each};
 ghost use Rattle.uv_guard.specs.Cells.{tables};
-ghost use Rattle.uv_guard.specs.Seated.{cells_of, kepts, joined_with, all_joined, IsOutside};
+ghost use Rattle.uv_guard.specs.Seated.{cells_of, kepts, joined_with, all_joined, IsWide, IsOutside};
 ghost use Rattle.uv_guard.specs.Closed.{IsAtRest, IsBalanced};
 
 use crate::cell::Cell;
@@ -16,6 +16,7 @@ fn absorb_one<T: Celled>(cells: &Vec<Cell<T>>, deeds: &mut Vec<GuardDeed<T>>, se
     requires deeds { cells_of deeds.old.items ≡ tables cells.now.items }
     requires seat { IsOutside (tables cells.now.items) seat }
     ensures deeds { deeds.new.items ≡ joined_with deeds.old.items (kepts seat) }
+    ensures wide { IsWide seat }
     ensures cells { cells_of deeds.new.items ≡ tables cells.now.items }
 {
     let mut places = seat.into_places();
@@ -36,6 +37,7 @@ pub fn absorb_all<T: Celled>(
     requires deeds { cells_of deeds.old.items ≡ tables cells.now.items }
     requires seats { Each (IsOutside (tables cells.now.items)) seats.items }
     ensures deeds { deeds.new.items ≡ all_joined deeds.old.items seats.items }
+    ensures wide { Each IsWide seats.items }
     ensures cells { cells_of deeds.new.items ≡ tables cells.now.items }
 {
     while let Some(seat) = seats.pop() {

@@ -5,8 +5,11 @@ ghost use Rattle.atomic_table.specs.Seated.{TableId};
 ghost use Rattle.uv_guard.specs.declared.view.Held.{Held};
 ghost use Rattle.uv_guard.specs.declared.life.Stage.TheVariants.{Home, Planted, Doomed};
 ghost use Rattle.uv_num.specs.Each.{Each};
+ghost use Rattle.uv_num.specs.declared.limits.TheConstants.{CELLS};
+ghost use Rattle.uv_order.specs.declared.signed.TheConstants.{SEATS};
 ghost use Rattle.uv_guard.specs.Closed.{IsAtRest, AreBalanced};
-ghost use Rattle.uv_guard.specs.Seated.{IsOutside, cells_of, outside, witnessed, planted_with, doomed_deed, buried_deed, fresh_seats, fresh_deeds};
+ghost use Rattle.uv_guard.specs.Seated.{IsOutside, cells_of, finds, outside, witnessed, planted_with, doomed_deed, buried_deed, fresh_seats, fresh_deeds};
+ghost use Rattle.uv_guard.specs.Words.{life_word};
 ghost use Rattle.uv_guard.specs.Entries.{Enters};
 
 use crate::cell::{Cell, Entering};
@@ -30,12 +33,13 @@ impl<T: Celled> Model for Guard<T> {
     ghost use Rattle.std.specs.Prelude.{List, ◌≡◌, map, length};
     ghost use Rattle.atomic_table.specs.Seated.{TableId};
     ghost use Rattle.uv_guard.specs.Cells.{tables};
+    ghost use Rattle.uv_num.specs.declared.limits.TheConstants.{CELLS};
 
     ghost Value = { List TableId };
 
     ghost view = { λ g. tables g.cells.items };
 
-    ghost invariant = { λ g. length (tables g.cells.items) ≡ 64 };
+    ghost invariant = { λ g. length (tables g.cells.items) ≡ CELLS };
 }
 
 impl<T: Celled> Guard<T> {
@@ -46,8 +50,8 @@ impl<T: Celled> Guard<T> {
     ) -> Result<(Guard<T>, List<GuardSeat<T>>, List<GuardDeed<T>>), AllocError>
     where
         T: Drop,
-        requires { (0 < seats) × (seats ≤ 32) }
-        ensures { IfOk result (λ r. (length r.0 ≡ 64) × (r.1 ≡ fresh_seats r.0 0 seats) × (r.2 ≡ fresh_deeds seats r.0)) }
+        requires { (0 < seats) × (seats ≤ SEATS) }
+        ensures { IfOk result (λ r. (length r.0 ≡ CELLS) × (r.1 ≡ fresh_seats r.0 0 seats) × (r.2 ≡ fresh_deeds seats r.0)) }
     {
         let (cells, mut deeds) = open_all(alloc)?;
         let seats = seat_all(alloc, &cells, &mut deeds, seats)?;
@@ -62,8 +66,8 @@ impl<T: Celled> Guard<T> {
     /// (34 to 63), at one moment of the call.
     pub fn look(&self, seat: &mut GuardSeat<T>, index: u32) -> u64
         requires guard { seat.old.guard ≡ self.now }
-        requires index { index < 64 }
-        ensures { seat.new ≡ seat.old }
+        requires index { index < CELLS }
+        ensures { seat.new ≡ finds seat.old index (life_word result ∷ []) }
     {
         let i = index as usize;
         let cell = &self.cells[i];
@@ -73,7 +77,7 @@ impl<T: Celled> Guard<T> {
     /// Tries to enter a cell at a generation, and never waits. Where it enters, the seat has the value until it leaves.
     pub fn enter(&self, seat: &mut GuardSeat<T>, index: u32, generation: u32) -> Entering<T>
         requires guard { seat.old.guard ≡ self.now }
-        requires index { index < 64 }
+        requires index { index < CELLS }
         requires out { slice_get seat.old.held index ≡ Some None }
         ensures { Enters T.goes_on index generation seat.old result seat.new }
     {
@@ -85,7 +89,7 @@ impl<T: Celled> Guard<T> {
     /// Gives a value back to a cell that the seat is in. It has to go on from the one that the seat entered with.
     pub fn leave(&self, seat: &mut GuardSeat<T>, index: u32, value: T)
         requires guard { seat.old.guard ≡ self.now }
-        requires index { index < 64 }
+        requires index { index < CELLS }
         requires inside { (h : Held T) × (slice_get seat.old.held index ≡ Some (Some h)) × T.goes_on h.value value }
         ensures { seat.new ≡ outside seat.old index value }
     {
@@ -120,6 +124,7 @@ impl<T: Celled> Guard<T> {
         requires doomed { (p : T) × (deed.old.stage ≡ Doomed p) }
         ensures deed { deed.new ≡ buried_deed deed.old result }
         ensures given { (p : T) → deed.old.stage ≡ Doomed p → T.goes_on p result }
+        ensures identity { (p : T) → deed.old.stage ≡ Doomed p → T.identity result ≡ T.identity p }
     {
         let i = deed.index() as usize;
         deed.retire(rt, &self.cells[i])

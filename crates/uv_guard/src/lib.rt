@@ -10,17 +10,24 @@ mod celled;
 mod deed;
 mod ends;
 mod guard;
+mod laws;
 mod life;
 mod makes;
 mod place;
 mod plays;
+mod register;
 mod seat;
 mod view;
 
-pub use cell::{Cell, Chair, Entering};
+pub use cell::Entering;
 pub use celled::Celled;
 pub use deed::GuardDeed;
 pub use guard::Guard;
+pub use laws::fresh_laws;
 pub use life::{Life, Planting, Stage};
+pub use register::{Register, add};
 pub use seat::GuardSeat;
-pub use view::{Held, Kept, Role, View};
+pub use view::{Found, Held, Kept};
+
+#[cfg(test)]
+mod tests;

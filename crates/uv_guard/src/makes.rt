@@ -2,6 +2,8 @@
 
 ghost use Rattle.std.specs.Prelude.{◌≡◌, ◌<◌, ◌≤◌, ℕ, suc, [], length, IfOk, vec_len, vec_capacity};
 ghost use Rattle.uv_guard.specs.Cells.{tables};
+ghost use Rattle.uv_num.specs.declared.limits.TheConstants.{CELLS};
+ghost use Rattle.uv_order.specs.declared.signed.TheConstants.{SEATS};
 ghost use Rattle.uv_guard.specs.Seated.{fresh_seat, fresh_seats, fresh_deeds};
 
 use crate::cell::Cell;
@@ -18,7 +20,7 @@ const COUNT: u32 = CELLS as u32;
 pub fn open_all<T: Celled + Drop>(
     alloc: Global,
 ) -> Result<(Vec<Cell<T>>, Vec<GuardDeed<T>>), AllocError>
-    ensures { IfOk result (λ r. (length r.0.items ≡ 64) × (r.1.items ≡ fresh_deeds 0 (tables r.0.items))) }
+    ensures { IfOk result (λ r. (length r.0.items ≡ CELLS) × (r.1.items ≡ fresh_deeds 0 (tables r.0.items))) }
 {
     let mut cells = Vec::with_capacity(alloc, CELLS)?;
     let mut deeds = Vec::with_capacity(alloc, CELLS)?;
@@ -39,8 +41,8 @@ fn seat_at<T: Celled>(
     number: u32,
     mut places: Vec<Place<T>>,
 ) -> GuardSeat<T>
-    requires number { number < 32 }
-    requires cells { length (tables cells.now.items) ≡ 64 }
+    requires number { number < SEATS }
+    requires cells { length (tables cells.now.items) ≡ CELLS }
     requires deeds { deeds.old.items ≡ fresh_deeds number (tables cells.now.items) }
     requires places { (places.items ≡ []) × (vec_len places ≡ 0) × (64 ≤ vec_capacity places) }
     ensures deeds { deeds.new.items ≡ fresh_deeds (suc number) (tables cells.now.items) }
@@ -63,8 +65,8 @@ pub fn seat_all<T: Celled + Drop>(
     deeds: &mut Vec<GuardDeed<T>>,
     count: u32,
 ) -> Result<Vec<GuardSeat<T>>, AllocError>
-    requires count { count ≤ 32 }
-    requires cells { length (tables cells.now.items) ≡ 64 }
+    requires count { count ≤ SEATS }
+    requires cells { length (tables cells.now.items) ≡ CELLS }
     requires deeds { deeds.old.items ≡ fresh_deeds 0 (tables cells.now.items) }
     ensures { IfOk result (λ s. (s.items ≡ fresh_seats (tables cells.now.items) 0 count) × (deeds.new.items ≡ fresh_deeds count (tables cells.now.items))) }
 {

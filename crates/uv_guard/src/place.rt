@@ -3,7 +3,9 @@
 ghost use Rattle.std.specs.Prelude.{◌≡◌, ◌<◌, [], ◌∷◌, ◌++◌, Some, None};
 ghost use Rattle.uv_guard.specs.declared.view.Held.{Held};
 ghost use Rattle.uv_guard.specs.Steps.{seat_view, taking};
+ghost use Rattle.uv_guard.specs.Words.{life_word};
 ghost use Rattle.uv_guard.specs.Calls.{IsOut};
+ghost use Rattle.uv_order.specs.declared.signed.TheConstants.{SEATS};
 ghost use Rattle.uv_guard.specs.Seated.{placed, fresh_place};
 ghost use Rattle.uv_guard.specs.Entries.{PlaceEnters};
 
@@ -31,7 +33,7 @@ impl<T: Celled> Model for Place<T> {
 impl<T: Celled> Place<T> {
     /// The place of a seat that was just made.
     pub(crate) fn of(number: u32, chair: Chair<T>) -> Place<T>
-        requires { (number < 32) × (chair.me ≡ (seat_view number, [])) }
+        requires { (number < SEATS) × (chair.me ≡ (seat_view number, [])) }
         ensures { result ≡ fresh_place number chair.table_id }
     {
         Place { number, chair }
@@ -47,7 +49,7 @@ impl<T: Celled> Place<T> {
 
     pub(crate) fn look(&mut self, cell: &Cell<T>) -> u64
         requires cell { self.old.cell ≡ cell.now.table.shared.table_id }
-        ensures { self.new ≡ self.old }
+        ensures { self.new ≡ record self.old { found = life_word result ∷ [] } }
     {
         cell.look(&mut self.chair)
     }

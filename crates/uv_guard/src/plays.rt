@@ -15,13 +15,26 @@ impl<T: Celled> TableRule<Option<T>, View<T>, ()> for Guarded {
     ghost first = { λ _. first_view };
 }
 
-/// A load that changes nothing.
+/// A seat reads a word, and no more.
+pub struct See;
+
+impl<T> Play<Option<T>, View<T>> for See {
+    ghost use Rattle.std.specs.Prelude.{◌≡◌, [], ◌∷◌};
+    ghost use Rattle.uv_guard.specs.Words.{found_at};
+    ghost use Rattle.uv_guard.specs.Steps.{finding};
+
+    ghost then = { λ st m n m'. m' ≡ finding m (found_at st.word n ∷ []) };
+}
+
+/// A seat reads one word more.
 pub struct Read;
 
 impl<T> Play<Option<T>, View<T>> for Read {
     ghost use Rattle.std.specs.Prelude.{◌≡◌};
+    ghost use Rattle.uv_guard.specs.Words.{found_at};
+    ghost use Rattle.uv_guard.specs.Steps.{finding_more};
 
-    ghost then = { λ st m n m'. m' ≡ m };
+    ghost then = { λ st m n m'. m' ≡ finding_more m (found_at st.word n) };
 }
 
 /// A seat sets its reference bit.

@@ -14,6 +14,13 @@ pub enum Role {
     Gone,
 }
 
+/// What a seat found in a word of the cell: the life word, which is 0, or the turn word, which is 1. No value of it is
+/// made.
+pub struct Found {
+    pub word: usize,
+    pub value: u64,
+}
+
 /// What a seat has while it is in the cell: the number of its taking, the generation, and the value that it entered
 /// with. No value of it is made.
 pub struct Held<T> {
@@ -38,6 +45,8 @@ pub struct View<T> {
     /// The generation that the seat refers to.
     pub refers: Option<u64>,
     pub entered: Option<Held<T>>,
+    /// The words that the seat found at its last look or try, in order.
+    pub found: LinkedList<Found>,
     /// The seat's takings that it gave back, in order.
     pub took: LinkedList<Taken<T>>,
     /// The cell's plantings and its lives that are over: all of them at the deed, at a seat those that it was told.

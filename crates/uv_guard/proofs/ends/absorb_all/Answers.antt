@@ -1,4 +1,4 @@
-use Rattle.std.proofs.Common.{◌∙◌, ◌++◌, ap, sym, subst}
+use Rattle.std.proofs.Common.{◌∙◌, ◌++◌, [], ◌∷◌, ap, sym, subst, append_assoc}
 use Rattle.std.specs.Prelude.{option_to_list}
 use Rattle.uv_num.specs.Each.{Each}
 use Rattle.uv_guard.specs.Cells.{tables}
@@ -17,4 +17,5 @@ loop-seat-preserved g c =
       ap (λ ds. all_joined ds c.pop.new.self.items) a.deeds ∙ (all_last c.loop-seat.deeds.items c.pop.new.self.items c.in-Some.seat ∙ (ap (all_joined c.loop-seat.deeds.items) (sym split) ∙ i.0)),
       a.cells,
       (each_last (IsOutside (tables c.args.cells.now.items)) c.pop.new.self.items c.in-Some.seat (subst (Each (IsOutside (tables c.args.cells.now.items))) split i.2)).0,
+      (c.in-Some.seat ∷ i.3.0, i.3.1 ∙ (ap (λ l. l ++ i.3.0) split ∙ append_assoc c.pop.new.self.items (c.in-Some.seat ∷ []) i.3.0), (a.wide, i.3.2)),
     )

@@ -4,6 +4,7 @@ use Rattle.uv_num.specs.Each.{Each}
 use Rattle.uv_guard.specs.Seated.{kept_by, joined_with}
 use Rattle.uv_guard.proofs.Many.{each_last, joined_none}
 use Rattle.uv_guard.proofs.Leaving.{no_items, starts, in_cells, in_deeds, one_cell, next_joined, next_cells, next_over}
+use Rattle.uv_guard.proofs.ByCell.{wide}
 use Rattle.uv_guard.proofs.ends.absorb_one.Goals as goal
 
 pub loop-place-init : goal.loop-place-init
@@ -40,6 +41,9 @@ loop-place-preserved g c =
       (each_last (λ p. p.held ≡ None) c.pop.new.self.items c.in-Some.place (subst (Each (λ p. p.held ≡ None)) split i.2)).0,
       (_, next_over c.args.cells.now.items c.loop-place.deeds.items c.loop-place.places.items c.pop.new.self.items c.in-Some.place c.len-i.result split len i.1 i.3.0 i.3.1),
     )
+
+pub returns-clause-wide : goal.returns-clause-wide
+returns-clause-wide g c = wide c.args.seat.number c.into_places-places.result.items c.args.seat c.into_places-places.ensures.0
 
 pub returns-clause-deeds : goal.returns-clause-deeds
 returns-clause-deeds g c =

@@ -8,7 +8,7 @@ use Rattle.uv_guard.proofs.cell.Cell.leave.Goals as goal
 pub fetch_add-requires : goal.fetch_add-requires
 fetch_add-requires g c =
     let i = c.requires.inside in let e = c.exchange.ensures.3 in
-    (search rules, search rules, gives_back g.T.Celled.goes_on _ _ _ i.0 c.args.value (ap (λ m. m.0.entered) e ∙ i.1.3) (ap (λ m. m.1) e ∙ ap (λ c'. (0, Some c.args.value) ∷ rest c') i.1.4) i.2)
+    (search rules, search rules, gives_back g.T.Celled.goes_on c.log_laws.ensures c.taking_laws.ensures _ _ _ i.0 c.args.value (ap (λ m. m.0.entered) e ∙ i.1.3) (ap (λ m. m.1) e ∙ ap (λ c'. (0, Some c.args.value) ∷ rest c') i.1.4) i.2)
 
 pub unrefer-requires-clause-seat : goal.unrefer-requires-clause-seat
 unrefer-requires-clause-seat g c =
