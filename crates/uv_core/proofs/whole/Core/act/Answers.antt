@@ -1,0 +1,18 @@
+use Rattle.uv_core.proofs.Leaving.{seen_as}
+use Rattle.uv_core.proofs.Sided.{act_leaves}
+use Rattle.uv_core.proofs.whole.Core.act.Goals as goal
+
+pub returns-clause-made : goal.returns-clause-made
+returns-clause-made g c =
+    let s = c.stands.ensures in
+    (seen_as c.args.client c.self.inside.graph c.args.self.now c.act.new.graph c.self.view_is (act_leaves c.self.inside.graph c.act.new.graph s.legal s.outs s.apart s.named c.act.ensures.legal c.args.client c.args.found c.act.result c.act.ensures.acts)).made
+
+pub returns-clause-seat : goal.returns-clause-seat
+returns-clause-seat g c =
+    let s = c.stands.ensures in
+    (seen_as c.args.client c.self.inside.graph c.args.self.now c.act.new.graph c.self.view_is (act_leaves c.self.inside.graph c.act.new.graph s.legal s.outs s.apart s.named c.act.ensures.legal c.args.client c.args.found c.act.result c.act.ensures.acts)).seat
+
+pub returns-clause-others : goal.returns-clause-others
+returns-clause-others g c =
+    let s = c.stands.ensures in
+    (seen_as c.args.client c.self.inside.graph c.args.self.now c.act.new.graph c.self.view_is (act_leaves c.self.inside.graph c.act.new.graph s.legal s.outs s.apart s.named c.act.ensures.legal c.args.client c.args.found c.act.result c.act.ensures.acts)).others

@@ -1,0 +1,18 @@
+use Rattle.uv_core.proofs.Leaving.{seen_as}
+use Rattle.uv_core.proofs.Sided.{refuse_leaves}
+use Rattle.uv_core.proofs.whole.Core.refuse.Goals as goal
+
+pub returns-clause-made : goal.returns-clause-made
+returns-clause-made g c =
+    let s = c.stands.ensures in
+    (seen_as c.args.client c.self.inside.graph c.args.self.now c.refuse.new.graph c.self.view_is (refuse_leaves c.self.inside.graph c.refuse.new.graph s.legal s.outs s.apart s.named c.refuse.ensures.legal c.args.client c.args.file c.args.request.now c.refuse.result c.refuse.ensures.notes)).made
+
+pub returns-clause-seat : goal.returns-clause-seat
+returns-clause-seat g c =
+    let s = c.stands.ensures in
+    (seen_as c.args.client c.self.inside.graph c.args.self.now c.refuse.new.graph c.self.view_is (refuse_leaves c.self.inside.graph c.refuse.new.graph s.legal s.outs s.apart s.named c.refuse.ensures.legal c.args.client c.args.file c.args.request.now c.refuse.result c.refuse.ensures.notes)).seat
+
+pub returns-clause-others : goal.returns-clause-others
+returns-clause-others g c =
+    let s = c.stands.ensures in
+    (seen_as c.args.client c.self.inside.graph c.args.self.now c.refuse.new.graph c.self.view_is (refuse_leaves c.self.inside.graph c.refuse.new.graph s.legal s.outs s.apart s.named c.refuse.ensures.legal c.args.client c.args.file c.args.request.now c.refuse.result c.refuse.ensures.notes)).others

@@ -1,0 +1,5 @@
+pub mod Beside
+pub mod Devices
+pub mod Plays
+pub mod Roles
+pub mod Uses
