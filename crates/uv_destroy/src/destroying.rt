@@ -17,7 +17,12 @@ use uv_machine::{CallStep, Object, Readers, Word};
 use uv_pool::Deed;
 
 /// Takes an object that nothing uses out of use. A husk has been released before, and nothing is to be buried.
-fn retire_object<D: Deed>(graph: &mut Graph<D>, client: u32, done: CallStep, x: Object) -> Progress<D>
+fn retire_object<D: Deed>(
+    graph: &mut Graph<D>,
+    client: u32,
+    done: CallStep,
+    x: Object,
+) -> Progress<D>
     requires step { IsStep graph.old client done }
     requires word { done.word ≡ word.Check }
     requires fine { refusal_in done.answer ≡ None }

@@ -1,5 +1,5 @@
 -- What is known of a call that acts: its words, and that what it acts on stands there.
-use Rattle.std.proofs.Common.{◌≡◌, ℕ, ◌+◌, ◌≤◌, Bool, true, false, List, [], ◌∷◌, Option, Some, None, length, refl, ap, sym, ◌∙◌, subst, arith, ◌⊎◌, inl, inr}
+use Rattle.std.proofs.Common.{◌≡◌, ℕ, ◌≤◌, Bool, true, false, List, [], ◌∷◌, Option, Some, None, length, refl, ap, sym, ◌∙◌, arith}
 use Rattle.std.specs.Prelude.{slice_get, unwrap_or, is_some, ◌==◌, ◌||◌}
 use Rattle.std.specs.List.{list_any}
 use Rattle.std.proofs.lemmas.Option.{none-some}
@@ -20,7 +20,7 @@ use Rattle.uv_machine.specs.declared.object.Object.{Object}
 use Rattle.uv_machine.specs.Plans.{next_word, acted_on, looks_at}
 use Rattle.uv_machine.specs.States.{call_of, object_with}
 use Rattle.uv_machine.specs.Histories.{IsLegal, state_of}
-use Rattle.uv_machine.specs.Reached.{IsPhased, Reached, look_count}
+use Rattle.uv_machine.specs.Reached.{IsPhased, look_count}
 use Rattle.uv_machine.proofs.Planned.{StandsAt, unwinds, in_plan, stands_in_plan}
 use Rattle.uv_machine.proofs.Phased.{act_has}
 use Rattle.uv_machine.proofs.Reaching.{Reached-state_of}

@@ -55,7 +55,7 @@ pub record IsDeedAt (t : DeedFacts) (k i : ℕ) (s : Seat) (cell : Cell) : Type 
   pub generation : t.generation ≡ cell.generation
   pub lives : TellsLives t.lives s.lives
 
--- the deed of a cell that nobody holds: it may be drawn while it is home, and is spent behind the last generation
+-- the deed of a cell that nobody holds: it may be drawn while it is home, and is spent after the last generation
 pub record IsIdleDeed (t : DeedFacts) (k i : ℕ) (s : Seat) : Type 0 where
   pub cell : Cell
   pub at : IsDeedAt t k i s cell

@@ -169,7 +169,7 @@ pub record FinishesBy (old new : Kept) (c kept : ℕ) : Type 0 where
 
 -- Opens and enters.
 
--- a refusal is noted, and is the machine's or want of memory; or there was no memory for it either, and nothing changed
+-- a refusal is noted, and is the machine's or that of a call out of memory; or there was no memory for it either, and nothing changed
 pub record IsNotedAs (old new : Kept) (c : ℕ) (e : Entry) (refusal : Option Errno) (errno : Errno) : Type 0 where
   pub may : MayAnswer refusal (answer.Refused errno)
   pub notes : NotesOrSpares old new e c
@@ -196,7 +196,7 @@ EnterGives old new c f request (Ok u) = IsEntered old new c f request
 EnterGives old new c f request (Err errno) =
     IsNotedAs old new c (entry.Enter c f request (answer.Refused errno)) (enter_refusal (state_of old.history) f request) errno ⊎ IsLost old new c errno
 
--- a call that has no memory is refused as the machine would refuse it, and else for want of memory
+-- a call that has no memory is refused as the machine would refuse it, and else as out of memory
 abbrev pub refusal_without : Option Errno → Errno
 refusal_without refusal = unwrap_or refusal NoMem
 

@@ -32,11 +32,7 @@ pub enum Play {
     Husk(u32),
 }
 
-fn takes_turn(
-    graph: &mut Graph<PlainDeed>,
-    client: u32,
-    turn: Turn,
-) -> Result<bool, AllocError> {
+fn takes_turn(graph: &mut Graph<PlainDeed>, client: u32, turn: Turn) -> Result<bool, AllocError> {
     if client == 0 || client > CLIENTS {
         return Ok(false);
     }

@@ -8,7 +8,9 @@ use uv_machine::{Answer, Word};
 use uv_num::{Errno, Kind, Request};
 
 const DEALLOC_PD: Request = Request::DeallocPd { pd: 0 };
+
 const DEREG_MR: Request = Request::DeregMr { mr: 1 };
+
 const DESTROY_CQ: Request = Request::DestroyCq { cq: 1 };
 
 fn enters(client: u32, request: Request) -> Play {

@@ -262,7 +262,7 @@ fn a_history_is_kept_as_it_is_played(rt: HostRuntime) -> Result<(), Fail> {
 }
 
 #[test]
-fn all_deeds_are_home_behind_a_history(rt: HostRuntime) -> Result<(), Fail> {
+fn all_deeds_are_home_after_a_history(rt: HostRuntime) -> Result<(), Fail> {
     let alloc = rt.alloc();
     let history = destroyed_and_torn(alloc)?;
     let (_, pools) = played(alloc, 10, history.as_slice())?;

@@ -1,4 +1,4 @@
-use Rattle.std.proofs.Common.{◌≡◌, true, ap, sym, ◌∙◌}
+use Rattle.std.proofs.Common.{sym, ◌∙◌}
 use Rattle.uv_machine.specs.Effects.{refusal_in}
 use Rattle.uv_machine.specs.States.{object_with}
 use Rattle.uv_machine.specs.Histories.{state_of}
