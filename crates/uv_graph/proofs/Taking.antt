@@ -9,7 +9,7 @@ use Rattle.uv_num.specs.declared.limits.TheConstants.{ACTOR_PLACES}
 use Rattle.uv_num.specs.declared.request.Role.{Role}
 use Rattle.uv_num.specs.Kind.{kind_place}
 use Rattle.uv_num.specs.Place.{at_place}
-use Rattle.uv_num.proofs.PlaceLaws.{length-at_place}
+use Rattle.uv_num.proofs.PlaceLaws.{length-at_place, slice_get-at_place_same}
 use Rattle.uv_pool.specs.Homes.{Homes}
 use Rattle.uv_machine.specs.declared.entry.Entry.{Entry}
 use Rattle.uv_machine.specs.declared.entry.Entry.TheVariants.{Step, Kill}
@@ -253,6 +253,12 @@ still_kill k k' by actor out new e (IsThat other now) apart = inr (now ∙ e)
 
 pub actor_place : (c : ℕ) (outs : List (Option Out)) → IsActor c → length outs ≡ ACTOR_PLACES → HasAt outs c
 actor_place c outs actor long = has_at outs c (omega (arith, actor.1, long))
+
+-- what an actor was given is what it has out
+pub in_hand : (outs outs' : List (Option Out)) (c : ℕ) (out : Out) → IsActor c → length outs ≡ ACTOR_PLACES → outs' ≡ at_place outs c (put_out (Some out)) → the_out (slice_get outs' c) ≡ Some out
+in_hand outs outs' c out actor long now =
+    let slot = actor_place c outs actor long in
+    ap (λ v. the_out (slice_get v c)) now ∙ ap the_out (slice_get-at_place_same outs c (put_out (Some out)) ∙ ap (option_map (put_out (Some out))) slot.is)
 
 module _ {D : Type 0} (tell : D → DeedFacts) (log log' : Logged) (k k' : Kept) (pools : List (Homes D)) (held held' : List (Option D)) (t : IsTied tell log k pools held)
     (x : Object) (u : Ids) (o : ℕ) (there : object_with (state_of log.history) o ≡ Some x) (live : is_live x.phase ≡ true)

@@ -15,7 +15,7 @@ use Rattle.uv_machine.specs.States.{call_of, object_with}
 use Rattle.uv_machine.specs.Histories.{state_of}
 use Rattle.uv_machine.specs.Reached.{cell_in}
 use Rattle.uv_graph.specs.declared.out.Out.{Out}
-use Rattle.uv_graph.specs.Kept.{Kept}
+use Rattle.uv_graph.specs.Kept.{Kept, out_of, kill_of}
 use Rattle.uv_pool.specs.Deeds.{DeedFacts, TellsLives}
 use Rattle.uv_graph.specs.Deeds.{out_for, IsDeedForNew, IsDeedPlantedFor, IsDeedBuried}
 use Rattle.uv_graph.specs.Lives.{identity_of, uses_in, lives_in, lives_out}
@@ -34,6 +34,7 @@ pub record HandsNew (old new : Kept) (e : Entry) (client o : ℕ) (t : DeedFacts
   pub is : call_of (state_of old.history) client ≡ Some call
   pub identity : identity_of item ≡ made_identity call o item.kind
   pub notes : NotesOut old new e client (Some (out_for item.uses item))
+  pub in_hand : out_of new client ≡ Some (out_for item.uses item)
   pub deed : IsDeedForNew t (out_for item.uses item) (lives_out new.history (Some (out_for item.uses item)))
 
 -- what an actor has in its hands of an object's that stands
@@ -46,6 +47,7 @@ pub record HandsPlanted (old new : Kept) (e : Entry) (client o : ℕ) (t : DeedF
   pub there : object_with (state_of old.history) o ≡ Some item
   pub live : is_live item.phase ≡ true
   pub notes : NotesOut old new e client (Some (out_in old.history item))
+  pub in_hand : out_of new client ≡ Some (out_in old.history item)
   pub deed : IsDeedPlantedFor t (out_in old.history item) (lives_out new.history (Some (out_in old.history item)))
 
 -- a kill: the object's deed went out to who tears its file down, planted for what it is out for
@@ -54,6 +56,7 @@ pub record HandsKilled (old new : Kept) (e : Entry) (actor o : ℕ) (t : DeedFac
   pub there : object_with (state_of old.history) o ≡ Some item
   pub live : is_live item.phase ≡ true
   pub notes : NotesKill old new e actor (Some (out_in old.history item))
+  pub in_hand : kill_of new actor ≡ Some (out_in old.history item)
   pub deed : IsDeedPlantedFor t (out_in old.history item) (lives_out new.history (Some (out_in old.history item)))
 
 -- the deed that this hand has out for the object comes back buried; its cell has these lives

@@ -8,7 +8,7 @@ use Rattle.uv_machine.specs.Histories.{Allowed, state_of}
 use Rattle.uv_graph.specs.Hands.{HandsPlanted, is_live_object, out_in}
 use Rattle.uv_graph.specs.Kept.{Kept, out_of, put_out}
 use Rattle.uv_graph.specs.Slots.{put_slot}
-use Rattle.uv_graph.proofs.Taking.{held_slot, deed_for, check_tied, live_object, actor_place}
+use Rattle.uv_graph.proofs.Taking.{held_slot, deed_for, check_tied, live_object, actor_place, in_hand}
 use Rattle.uv_graph.specs.Seats.{slot_of}
 use Rattle.std.specs.Prelude.{slice_get, unwrap_or}
 use Rattle.uv_machine.specs.Objects.{no_ids}
@@ -78,5 +78,6 @@ returns-clause-hands g c =
       there = there;
       live = live;
       notes = record { history = c.note.ensures.history; spares = refl; outs = now; kills = refl };
+      in_hand = in_hand c.self.inside.outs c.set_out.new.outs c.args.client (out_in c.self.inside.log.history c.in-Some.x) allowed.0 c.self.invariant.tied.outs_size now;
       deed = deed_for tell c.self.inside.log _ c.self.inside.pools c.self.inside.held c.self.invariant.tied c.in-Some.x c.args.object there live (entry.Step c.args.client word.Check c.args.object None answer.Ok) allowed tt c.note.new.self c.note.ensures.history c.in-Some-take.deed held;
     })

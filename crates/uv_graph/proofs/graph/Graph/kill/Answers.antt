@@ -8,7 +8,7 @@ use Rattle.uv_graph.specs.Hands.{HandsKilled, out_in}
 use Rattle.uv_graph.specs.Kept.{Kept, kill_of, put_out}
 use Rattle.uv_graph.specs.Owns.{torn_by_object}
 use Rattle.uv_graph.specs.Slots.{put_slot}
-use Rattle.uv_graph.proofs.Taking.{held_slot, deed_for, kill_tied, killed_live, torn_actor, actor_place}
+use Rattle.uv_graph.proofs.Taking.{held_slot, deed_for, kill_tied, killed_live, torn_actor, actor_place, in_hand}
 use Rattle.uv_graph.specs.Seats.{slot_of}
 use Rattle.std.specs.Prelude.{slice_get, unwrap_or}
 use Rattle.uv_machine.specs.Objects.{no_ids}
@@ -82,5 +82,6 @@ returns-clause-hands g c =
       there = there;
       live = live;
       notes = record { history = c.note.ensures.history; spares = refl; outs = refl; kills = now };
+      in_hand = in_hand c.self.inside.kills c.set_out.new.outs c.args.by (out_in c.self.inside.log.history c.in-Some.x) (torn_actor c.self.inside.log.history c.args.by c.args.object c.self.invariant.tied.legal torn) c.self.invariant.tied.kills_size now;
       deed = deed_for tell c.self.inside.log _ c.self.inside.pools c.self.inside.held c.self.invariant.tied c.in-Some.x c.args.object there live (entry.Kill c.args.object) allowed tt c.note.new.self c.note.ensures.history c.in-Some-take.deed held;
     })

@@ -12,7 +12,7 @@ use Rattle.uv_graph.specs.Kept.{Kept, out_of, put_out}
 use Rattle.uv_graph.specs.Slots.{next_deed, after_draw, put_uses}
 use Rattle.uv_graph.proofs.Making.{made_there, made_is, drawn_some, drawn_for, make_tied, low_x, lives_x, lives_beside}
 use Rattle.uv_graph.proofs.Knowing.{IsTold, named_out, stored_made, told_made}
-use Rattle.uv_graph.proofs.Taking.{actor_place}
+use Rattle.uv_graph.proofs.Taking.{actor_place, in_hand}
 use Rattle.uv_graph.proofs.Whole.{whole_by}
 use Rattle.uv_graph.specs.declared.out.Out.{Out}
 use Rattle.uv_graph.specs.Deeds.{out_for}
@@ -89,5 +89,6 @@ returns-clause-hands g c =
       is = it.is;
       identity = it.known;
       notes = record { history = c.note.ensures.history; spares = refl; outs = (c.set_out.ensures ∙ ap (λ v. at_place c.self.inside.outs c.args.client (put_out (Some v))) c.out_for.ensures); kills = refl };
+      in_hand = in_hand c.self.inside.outs c.set_out.new.outs c.args.client (out_for c.in-Some.x.uses c.in-Some.x) allowed.0 c.self.invariant.tied.outs_size (c.set_out.ensures ∙ ap (λ v. at_place c.self.inside.outs c.args.client (put_out (Some v))) c.out_for.ensures);
       deed = drawn_for tell c.self.inside.log c.note.new.self k k' c.self.inside.pools c.draw.new.pools c.self.inside.held c.self.invariant.tied c.args.client c.args.object allowed none c.note.ensures.history c.in-Some.x found it c.in-Some-draw.deed (sym c.in-Some-draw.is ∙ c.draw.ensures.deed ∙ ap (λ v. next_deed g.D.Deed.facts (slice_get c.self.inside.pools v)) c.place.ensures.place);
     })
