@@ -29,7 +29,7 @@ pub seen_as : (a : ℕ) (inside old new : Kept) → inside ≡ old → Leaves a 
 seen_as a inside old new view leaves = (let P : Kept → Type 0 = λ k. Leaves a k new in subst P view leaves)
 
 -- the last entry of a legal history was allowed
-last_from : (m : State) (h : List Entry) (e : Entry) → IsLegalFrom m (h ++ e ∷ []) → Allowed (state_from m h) e
+pub last_from : (m : State) (h : List Entry) (e : Entry) → IsLegalFrom m (h ++ e ∷ []) → Allowed (state_from m h) e
 last_from m [] e legal = legal.0
 last_from m (x ∷ h) e legal = last_from (after m x) h e legal.1
 

@@ -12,6 +12,7 @@ ghost use Rattle.uv_graph.specs.Notes.{HasNoOut, NotesSpared};
 ghost use Rattle.uv_graph.specs.Owns.{own_of};
 ghost use Rattle.uv_graph.specs.Turns.{ActsBy, EnterGives, FinishesBy, OpenGives, StepGives, refusal_without};
 ghost use Rattle.uv_core.specs.Beside.{Adds, OthersKeep, SeatNames};
+ghost use Rattle.uv_core.specs.Leads.{EnterLeads, StepLeads};
 ghost use Rattle.uv_core.specs.Roles.{is_any};
 
 use crate::whole::{Core, stands};
@@ -69,6 +70,7 @@ impl<D: Deed> Core<D> {
         requires file { file < FILES }
         requires free { IsFree (own_of self.old client) }
         ensures gives { EnterGives self.old self.new client file request.now result }
+        ensures leads { EnterLeads (own_of self.new client) result }
         ensures made { Adds self.old self.new }
         ensures seat { SeatNames client self.old self.new }
         ensures others { OthersKeep client self.old self.new }
@@ -88,6 +90,7 @@ impl<D: Deed> Core<D> {
         ensures errno { result ≡ refusal_without (enter_refusal (state_of self.old.history) file request.now) }
         ensures notes { NotesSpared self.old self.new (entry.Enter client file request.now (answer.Refused result)) client }
         ensures spare { spare_of self.old client ≡ spare_of self.new client + 1 }
+        ensures leads { IsFree (own_of self.new client) }
         ensures made { Adds self.old self.new }
         ensures seat { SeatNames client self.old self.new }
         ensures others { OthersKeep client self.old self.new }
@@ -113,13 +116,16 @@ impl<D: Deed> Core<D> {
     pub fn step(&mut self, client: u32) -> Progress<D>
         requires { IsReady is_any (own_of self.old client) }
         ensures gives { StepGives D.facts self.old self.new client result }
+        ensures leads { StepLeads D.facts (own_of self.new client) result }
         ensures made { Adds self.old self.new }
         ensures seat { SeatNames client self.old self.new }
         ensures others { OthersKeep client self.old self.new }
         ensures legal { IsLegal self.new.history }
     {
         stands(&self.graph);
-        take_step(&mut self.graph, client)
+        let progress = take_step(&mut self.graph, client);
+        self.graph.are_out();
+        progress
     }
 
     /// Takes the deed back that `step` handed out by `Plant`, now planted for the call's object. It makes no entry and takes
@@ -127,6 +133,7 @@ impl<D: Deed> Core<D> {
     pub fn planted(&mut self, client: u32, deed: D)
         requires { ComesPlanted (own_of self.old client) (D.facts deed) }
         ensures same { HasNoOut self.old self.new client }
+        ensures leads { IsClient client → IsReady is_any (own_of self.new client) }
         ensures made { Adds self.old self.new }
         ensures seat { SeatNames client self.old self.new }
         ensures others { OthersKeep client self.old self.new }
@@ -143,6 +150,7 @@ impl<D: Deed> Core<D> {
     pub fn act(&mut self, client: u32, found: Option<QpState>) -> Answer
         requires { IsTouching (own_of self.old client) found }
         ensures acts { ActsBy self.old self.new client found result }
+        ensures leads { IsReady is_any (own_of self.new client) }
         ensures made { Adds self.old self.new }
         ensures seat { SeatNames client self.old self.new }
         ensures others { OthersKeep client self.old self.new }
@@ -158,6 +166,7 @@ impl<D: Deed> Core<D> {
     pub fn finish(&mut self, client: u32, deed: D, kept: u64)
         requires { IsFinishing (own_of self.old client) (D.facts deed) }
         ensures finishes { FinishesBy self.old self.new client kept }
+        ensures leads { IsReady is_any (own_of self.new client) }
         ensures made { Adds self.old self.new }
         ensures seat { SeatNames client self.old self.new }
         ensures others { OthersKeep client self.old self.new }

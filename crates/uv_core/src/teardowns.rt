@@ -8,6 +8,7 @@ ghost use Rattle.uv_graph.specs.Conditions.{IsReleasing, IsSweeper, Pulls};
 ghost use Rattle.uv_graph.specs.Owns.{TearsNone, own_of};
 ghost use Rattle.uv_graph.specs.Turns.{ReleasesBy, SweepGives, TearGives, UnplugGives, close_of, tear_of};
 ghost use Rattle.uv_core.specs.Beside.{Adds, OthersKeep, SeatNames};
+ghost use Rattle.uv_core.specs.Leads.{SweepLeads, TearLeads};
 
 use crate::whole::{Core, stands};
 use uv_graph::{Swept, Torn};
@@ -39,6 +40,7 @@ impl<D: Deed> Core<D> {
         requires none { TearsNone (own_of self.old tearer) }
         ensures answer { result ≡ close_of (phase_of (state_of self.old.history) file) }
         ensures gives { TearGives self.old self.new file tearer result }
+        ensures leads { TearLeads (own_of self.new tearer) file result }
         ensures made { Adds self.old self.new }
         ensures seat { SeatNames tearer self.old self.new }
         ensures others { OthersKeep tearer self.old self.new }
@@ -58,6 +60,7 @@ impl<D: Deed> Core<D> {
         requires none { TearsNone (own_of self.old DRIVER) }
         ensures answer { result ≡ tear_of (state_of self.old.history) device file }
         ensures gives { TearGives self.old self.new file DRIVER result }
+        ensures leads { TearLeads (own_of self.new DRIVER) file result }
         ensures made { Adds self.old self.new }
         ensures seat { SeatNames DRIVER self.old self.new }
         ensures others { OthersKeep DRIVER self.old self.new }
@@ -76,6 +79,7 @@ impl<D: Deed> Core<D> {
     pub fn sweep(&mut self, tearer: u32, file: u32) -> Swept<D>
         requires { IsSweeper (own_of self.old tearer) file }
         ensures gives { SweepGives D.facts self.old self.new tearer file result }
+        ensures leads { SweepLeads D.facts (own_of self.new tearer) file result }
         ensures made { Adds self.old self.new }
         ensures seat { SeatNames tearer self.old self.new }
         ensures others { OthersKeep tearer self.old self.new }
@@ -90,6 +94,7 @@ impl<D: Deed> Core<D> {
     pub fn gone(&mut self, tearer: u32, file: u32, deed: D, kept: u64)
         requires { IsReleasing (own_of self.old tearer) file (D.facts deed) }
         ensures releases { ReleasesBy self.old self.new tearer kept }
+        ensures leads { IsSweeper (own_of self.new tearer) file }
         ensures made { Adds self.old self.new }
         ensures seat { SeatNames tearer self.old self.new }
         ensures others { OthersKeep tearer self.old self.new }

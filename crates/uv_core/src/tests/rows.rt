@@ -22,7 +22,7 @@ fn call(request: Request) -> Turn {
     }
 }
 
-fn made(handle: u32, index: u32, generation: u32) -> Saw {
+pub(super) fn made(handle: u32, index: u32, generation: u32) -> Saw {
     Saw::Ended(Answer::Made {
         handle,
         index,
@@ -30,7 +30,7 @@ fn made(handle: u32, index: u32, generation: u32) -> Saw {
     })
 }
 
-fn refused(errno: Errno) -> Saw {
+pub(super) fn refused(errno: Errno) -> Saw {
     Saw::Ended(Answer::Refused(errno))
 }
 
@@ -43,7 +43,7 @@ fn used(object: u32, kind: Kind, index: u32, generation: u32) -> Saw {
     }))
 }
 
-fn killed(object: u32, kind: Kind, handle: u32) -> Saw {
+pub(super) fn killed(object: u32, kind: Kind, handle: u32) -> Saw {
     Saw::Killed {
         object,
         kind,

@@ -1,3 +1,7 @@
+use Rattle.uv_core.proofs.Sweeping.{tear_leads}
+use Rattle.uv_graph.specs.Owns.{own_of, TearsNone}
+use Rattle.uv_graph.specs.Kept.{Kept}
+use Rattle.std.proofs.Common.{subst, sym}
 use Rattle.uv_core.proofs.Leaving.{seen_as}
 use Rattle.uv_core.proofs.Sided.{tear_leaves}
 use Rattle.uv_core.proofs.whole.Core.close.Goals as goal
@@ -16,3 +20,9 @@ pub returns-clause-others : goal.returns-clause-others
 returns-clause-others g c =
     let s = c.stands.ensures in
     (seen_as c.args.tearer c.self.inside.graph c.args.self.now c.close.new.graph c.self.view_is (tear_leaves c.self.inside.graph c.close.new.graph s.legal s.outs s.apart s.named c.close.ensures.legal c.args.file c.args.tearer c.close.result c.close.ensures.gives)).others
+
+pub returns-clause-leads : goal.returns-clause-leads
+returns-clause-leads g c =
+    let s = c.stands.ensures in
+    let P : Kept → Type 0 = λ k. TearsNone (own_of k c.args.tearer) in
+    tear_leads c.self.inside.graph c.close.new.graph c.args.tearer c.args.file c.close.result c.requires.file s.legal s.outs (subst P (sym c.self.view_is) c.requires.none) c.close.ensures.gives

@@ -1,3 +1,4 @@
+use Rattle.uv_core.proofs.Sweeping.{sweep_leads}
 use Rattle.std.proofs.Common.{subst, sym}
 use Rattle.uv_graph.specs.Kept.{Kept}
 use Rattle.uv_graph.specs.Owns.{own_of}
@@ -26,3 +27,8 @@ returns-clause-others g c =
     let P : Kept → Type 0 = λ k. IsSweeper (own_of k c.args.tearer) c.args.file in
     let sweeper = subst P (sym c.self.view_is) c.requires in
     (seen_as c.args.tearer c.self.inside.graph c.args.self.now c.sweep.new.graph c.self.view_is (sweep_leaves c.self.inside.graph c.sweep.new.graph s.legal s.outs s.apart s.named c.sweep.ensures.legal g.D.Deed.facts c.args.tearer c.args.file c.sweep.result sweeper c.sweep.ensures.gives)).others
+
+pub returns-clause-leads : goal.returns-clause-leads
+returns-clause-leads g c =
+    let P : Kept → Type 0 = λ k. IsSweeper (own_of k c.args.tearer) c.args.file in
+    sweep_leads c.self.inside.graph c.sweep.new.graph c.args.tearer c.args.file g.D.Deed.facts c.sweep.result (subst P (sym c.self.view_is) c.requires) c.sweep.ensures.gives
