@@ -8,6 +8,7 @@
 
 mod calls;
 pub mod laws;
+mod readers;
 mod teardowns;
 mod uses;
 mod whole;

@@ -17,7 +17,7 @@ use uv_machine::enter_refusal;
 use uv_num::{Errno, FILES, Request};
 use uv_pool::Deed;
 
-/// Notes that a call is refused at its enter with this errno. Where there is no room for that, it is want of memory.
+/// Notes that a call is refused at its enter with this errno. Where there is no room for that, it answers ENOMEM.
 fn note_refusal<D: Deed>(
     graph: &mut Graph<D>,
     client: u32,

@@ -14,7 +14,7 @@ use uv_machine::open_refusal;
 use uv_num::{DEVICES, Errno, FILES};
 use uv_pool::Deed;
 
-/// Notes that an open is refused with this errno. Where there is no room for that, it is want of memory.
+/// Notes that an open is refused with this errno. Where there is no room for that, it answers ENOMEM.
 fn note_refusal<D: Deed>(
     graph: &mut Graph<D>,
     client: u32,

@@ -1,9 +1,12 @@
 //! The graph: the machine's state with its stored history, and the deeds of its cells.
 
-ghost use Rattle.std.specs.Prelude.{◌≡◌, IfOk};
+ghost use Rattle.std.specs.Prelude.{◌≡◌, IfOk, length};
+ghost use Rattle.uv_num.specs.declared.limits.TheConstants.{ACTOR_PLACES};
 ghost use Rattle.uv_machine.specs.Histories.{state_of};
 ghost use Rattle.uv_graph.specs.Calls.{calls_on};
 ghost use Rattle.uv_graph.specs.Kept.{spare_of};
+ghost use Rattle.uv_graph.specs.Seats.{TearsOnce};
+ghost use Rattle.uv_machine.specs.Files.{client_of_file};
 
 use crate::counts::count_on;
 use crate::out::Out;
@@ -120,6 +123,38 @@ impl<D: Deed + Drop> Graph<D> {
         ensures { result ≡ calls_on (state_of self.now.history) file }
     {
         count_on(&self.log.state().calls, file)
+    }
+
+    /// The client that opened a file. It says something only of a file that was opened.
+    pub fn client_of(&self, file: u32) -> u32
+        ensures { result ≡ client_of_file (state_of self.now.history) file }
+    {
+        match self.log.state().files.get(file as usize) {
+            None => 0,
+            Some(file) => file.client,
+        }
+    }
+
+    /// The objects, oldest first.
+    pub fn objects(&self) -> &[Object]
+        ensures { result.now ≡ (state_of self.now.history).objects }
+    {
+        self.log.state().objects.as_slice()
+    }
+
+    /// Each actor has a place for what it has out. It does nothing.
+    pub fn has_places(&self)
+        ensures outs { length self.now.outs ≡ ACTOR_PLACES }
+        ensures kills { length self.now.kills ≡ ACTOR_PLACES }
+    {
+        let _ = &self.log;
+    }
+
+    /// An actor tears one file at most. It does nothing.
+    pub fn tears_once(&self)
+        ensures { TearsOnce (state_of self.now.history) }
+    {
+        let _ = &self.log;
     }
 
     /// The refused entries of a client that the history has room for.

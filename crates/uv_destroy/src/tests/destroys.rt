@@ -5,6 +5,7 @@ ghost use Rattle.uv_machine.specs.declared.entry.Word.TheVariants as words;
 ghost use Rattle.uv_machine.specs.Plans.{next_word};
 ghost use Rattle.uv_graph.specs.Conditions.{IsClient, IsFinishing, IsReady, is_destroy};
 ghost use Rattle.uv_graph.specs.Owns.{own_of};
+ghost use Rattle.uv_graph.specs.Turns.{FinishesBy};
 
 use crate::{finish, step};
 use uv_graph::{Graph, Progress};
@@ -78,9 +79,10 @@ fn comes_buried(graph: &Graph<PlainDeed>, client: u32, deed: &PlainDeed) -> bool
     }
 }
 
-/// Buries the deed that a step handed out, and finishes its object, of which three actions are kept.
+/// Buries the deed that a step handed out, and finishes its object: its entry tells that three actions are kept.
 fn finishes(graph: &mut Graph<PlainDeed>, client: u32, deed: PlainDeed) -> bool
     requires { IsClient client }
+    ensures { IsTrue result → FinishesBy graph.old graph.new client 3 }
 {
     let mut deed = deed;
     deed.bury();
