@@ -1,5 +1,5 @@
 -- A history has one first bad place at most, and none where it is legal.
-use Rattle.std.specs.Prelude.{ℕ, zero, suc, ◌≡◌, ◌<◌, ◌⊎◌, List, [], ◌∷◌, length, take, slice_get, IfSome, Option, None, Some, MatchOption}
+use Rattle.std.specs.Prelude.{ℕ, zero, suc, ◌≡◌, ◌<◌, List, [], ◌∷◌, length, take, slice_get, IfSome, Option, None, Some, MatchOption}
 use Rattle.std.proofs.Common.{sym, ap, subst, arith, inl, ⊎_elim}
 use Rattle.std.proofs.lemmas.Bool.{cases_order}
 use Rattle.std.proofs.lemmas.List.{take_all}

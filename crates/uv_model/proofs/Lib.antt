@@ -1,1 +1,2 @@
 pub mod Bads
+pub mod Ends

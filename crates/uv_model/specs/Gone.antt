@@ -8,7 +8,7 @@ use Rattle.uv_machine.specs.declared.state.State.{State}
 use Rattle.uv_machine.specs.States.{object_with, start}
 use Rattle.uv_machine.specs.Histories.{after, state_of}
 use Rattle.uv_model.specs.declared.left.Left.{Left}
-use Rattle.uv_model.specs.Standing.{left_of}
+use Rattle.uv_model.specs.Standing.{left_of, all_left}
 
 -- One teardown.
 
@@ -92,6 +92,16 @@ begins (Kill o) = false
 begins (Gone o kept) = false
 begins (Dissociated f) = false
 begins (Closed f) = false
+
+-- the entries in front of the end of a script
+abbrev pub before_end : List Entry → List Entry
+before_end [] = []
+before_end (e ∷ es) = if begins e then [] else e ∷ before_end es
+
+-- the objects that were left when the end of the script began, or at the last entry where it didn't: those that are no husks,
+-- oldest first
+abbrev pub left_at_end : List Entry → List Left
+left_at_end h = all_left (state_of (before_end h))
 
 -- an object that is released, once the end has begun
 abbrev pub gone_object : State → Bool → ℕ → List Left

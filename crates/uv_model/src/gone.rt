@@ -4,9 +4,9 @@ ghost use Rattle.std.specs.Prelude.{◌≡◌, ◌≤◌, ◌++◌, ◌||◌, If
 ghost use Rattle.std.specs.Option.{option_copied};
 ghost use Rattle.uv_machine.specs.Histories.{state_of};
 ghost use Rattle.uv_machine.specs.States.{object_with};
-ghost use Rattle.uv_model.specs.Gone.{torn_file, ends_teardown, of_file, gone_in, gone_until, torn_at, gone_after, begins, gone_object, gone_by, gone_of};
+ghost use Rattle.uv_model.specs.Gone.{torn_file, ends_teardown, of_file, gone_in, gone_until, torn_at, gone_after, begins, before_end, left_at_end, gone_object, gone_by, gone_of};
 
-use crate::left::Left;
+use crate::left::{Left, left_in};
 use crate::replays::replayed;
 use std::alloc::{AllocError, Global};
 use uv_machine::{Entry, Object, Readers, State};
@@ -176,6 +176,28 @@ fn begins(entry: Entry) -> bool
         | Entry::Dissociated { .. }
         | Entry::Closed { .. } => false,
     }
+}
+
+/// The objects that were left when the end of the script began to close the files, or at the last entry where it didn't:
+/// those that no teardown had released, oldest first. The history is made again from its beginning. Its only error is want
+/// of memory. This project's own.
+pub fn left_at_end(alloc: Global, history: &List<Entry>) -> Result<List<Left>, AllocError>
+    ensures { IfOk result (λ l. l ≡ left_at_end history.now) }
+{
+    let state = replayed(alloc, before_end(history.as_slice()))?;
+    left_in(alloc, state.objects.as_slice())
+}
+
+/// The entries in front of the end of the script.
+fn before_end(entries: &[Entry]) -> &[Entry]
+    ensures { result.now ≡ before_end entries.now }
+{
+    for (at, entry) in entries.iter().enumerate() {
+        if begins(*entry) {
+            return &entries[..at];
+        }
+    }
+    entries
 }
 
 /// Puts the object that an entry releases behind the others, if it releases one and the end has begun.

@@ -1,7 +1,8 @@
 //! The object-graph machine under the name that the layers above know, and what its histories tell.
 //!
 //! `judge` says whether a history is legal, and else where it is bad first. `standing` tells what stands at a place of a
-//! history, `gone_after` what one teardown released, and `gone_at_end` what went when the end of a script closed the files.
+//! history, `gone_after` what one teardown released, `left_at_end` what was left when the end of a script began to close the
+//! files, and `gone_at_end` what went as it closed them.
 //! The words and definitions of `uv_machine` are passed on.
 #![tactic(auto)]
 
@@ -12,7 +13,7 @@ mod replays;
 #[cfg(test)]
 mod tests;
 
-pub use gone::{gone_after, gone_at_end};
+pub use gone::{gone_after, gone_at_end, left_at_end};
 pub use judging::{Verdict, judge};
 pub use left::{Left, left_in};
 pub use replays::standing;

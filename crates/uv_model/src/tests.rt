@@ -1,6 +1,8 @@
 //! Histories with two files, written out by hand.
 
-use crate::{Answer, Entry, Left, Verdict, Word, gone_after, gone_at_end, judge, standing};
+use crate::{
+    Answer, Entry, Left, Verdict, Word, gone_after, gone_at_end, judge, left_at_end, standing,
+};
 use std::alloc::{AllocError, Global};
 use std::process::Abort;
 use std::test::Fail;
@@ -201,6 +203,17 @@ fn expect_gone_at_end(
     Ok(())
 }
 
+fn expect_left_at_end(
+    rt: &impl Abort,
+    alloc: Global,
+    history: &List<Entry>,
+    want: &[Left],
+) -> Result<(), AllocError> {
+    let told = left_at_end(alloc, history)?;
+    assert_eq!(rt; told.as_slice(), want);
+    Ok(())
+}
+
 #[test]
 fn objects_stand_from_their_make_to_their_release(rt: HostRuntime) -> Result<(), Fail> {
     let history = closed_in_turns(rt.alloc())?;
@@ -255,6 +268,11 @@ fn the_end_of_a_script_releases_what_is_left(rt: HostRuntime) -> Result<(), Fail
     expect_gone(&rt, rt.alloc(), &history, 31, &[domain(0, 1), domain(0, 0)])?;
     expect_gone_at_end(&rt, rt.alloc(), &history, &[domain(0, 1), domain(0, 0)])?;
     expect_gone_at_end(&rt, rt.alloc(), &List::new(rt.alloc()), &[])?;
+    expect_left_at_end(&rt, rt.alloc(), &history, &[domain(0, 0), domain(0, 1)])?;
+    // The end hasn't begun: what stands at the last entry is left.
+    let before = two_files(rt.alloc())?;
+    let all = [domain(0, 0), domain(0, 1), domain(1, 0)];
+    expect_left_at_end(&rt, rt.alloc(), &before, &all)?;
     Ok(())
 }
 

@@ -32,13 +32,13 @@ fn put_replies(text: &mut String, replies: &[Said]) -> Result<(), AllocError>
     ensures { OnOk result (string_bytes text.new ≡ string_bytes text.old ++ flat_map said_line replies.now) }
 {
     for said in replies {
-        put_said(text, *said)?;
+        put_said(text, said)?;
     }
     Ok(())
 }
 
-fn put_said(text: &mut String, said: Said) -> Result<(), AllocError>
-    ensures { OnOk result (string_bytes text.new ≡ string_bytes text.old ++ said_line said) }
+fn put_said(text: &mut String, said: &Said) -> Result<(), AllocError>
+    ensures { OnOk result (string_bytes text.new ≡ string_bytes text.old ++ said_line said.now) }
 {
     write!(text, "{} {}\n", said.line, said.text)
 }

@@ -1,11 +1,32 @@
-pub mod Answerings
-pub mod Beginnings
-pub mod Endings
-pub mod MachineLaws
-pub mod NextSteps
-pub mod Outcomes
-pub mod Playings
-pub mod Progress
-pub mod Refusals
-pub mod Snocs
-pub mod Ways
+mod Begging
+mod Beginnings
+mod Answering
+mod CallSounds
+mod ChainLaws
+mod Determined
+mod Ending
+mod Keeping
+mod Lowering
+mod MachineLaws
+mod NextWords
+mod Once
+mod Outcomes
+mod Overs
+mod Planting
+mod Reaches
+mod Removing
+mod RunSounds
+mod Shapes
+mod Seated
+mod Sitting
+mod Sounds
+mod Starts
+mod StepSounds
+mod StepTurns
+mod Sweeps
+mod TearSounds
+mod TearTurns
+mod Tears
+mod Tellings
+mod Turning
+mod Waits

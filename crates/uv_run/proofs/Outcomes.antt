@@ -5,6 +5,7 @@ use Rattle.uv_num.specs.declared.limits.TheConstants.{SCRIPT_BYTES}
 use Rattle.uv_io.specs.Faults.{Rose}
 use Rattle.uv_io.specs.Whole.{ReadsCount}
 use Rattle.uv_script.specs.Script.{script_of}
+use Rattle.uv_script.specs.declared.form.Mode.TheVariants.{Steps}
 use Rattle.uv_run.specs.Outcome.{RefusesScript, IsScriptLeft, IsStepsStatus, IsRunOrNoMemory}
 
 -- bytes that were read to the end are all that was left
@@ -27,7 +28,7 @@ no_more (Some xs) (Some ys) bytes known is consumed =
 no_refusal : (old new written rewritten : Option (List ℕ)) (before now : ℕ) → IsScriptLeft old → RefusesScript old new written rewritten before now → ⊥
 no_refusal old new written rewritten before now left refuses =
     let same : refuses.bytes ≡ left.bytes = all_left old new refuses.bytes left.bytes left.known refuses.whole.consumed refuses.whole.ended in
-    let script : script_of refuses.bytes ≡ script_of left.bytes = ap script_of same in
+    let script : script_of Steps refuses.bytes ≡ script_of Steps left.bytes = ap (script_of Steps) same in
     let both : Err refuses.tells.line ≡ Ok left.lines = sym refuses.tells.script ∙ (script ∙ left.script) in
     cc
 

@@ -3,9 +3,9 @@ use Rattle.std.specs.Prelude.{ℕ, ◌≡◌, List, unwrap_or}
 use Rattle.std.specs.Ordering.{nat_cmp}
 use Rattle.std.specs.BTreeMap.{BTreeMap, get}
 use Rattle.uv_num.specs.declared.limits.TheConstants.{NONE}
-use Rattle.uv_report.specs.declared.record.Said.{Said}
-use Rattle.uv_run.specs.Playing.{given}
+use Rattle.uv_run.specs.declared.reply.Reply.{Reply}
+use Rattle.uv_run.specs.Stand.{given}
 
 -- the handles that are kept by their lines are those that the replies tell
-abbrev pub AreTold : BTreeMap ℕ ℕ → List Said → Type 0
-AreTold handles told = (line : ℕ) → unwrap_or (get nat_cmp handles line) NONE ≡ given told line
+abbrev pub AreKept : BTreeMap ℕ ℕ → List Reply → Type 0
+AreKept handles replies = (line : ℕ) → unwrap_or (get nat_cmp handles line) NONE ≡ given replies line

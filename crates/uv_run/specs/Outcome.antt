@@ -6,16 +6,19 @@ use Rattle.uv_io.specs.Faults.{Rose}
 use Rattle.uv_io.specs.Whole.{ReadsWhole, ReadsPrefix, ReadsCount, WritesPrefix}
 use Rattle.uv_script.specs.declared.form.Line.{Line}
 use Rattle.uv_script.specs.Script.{script_of}
+use Rattle.uv_script.specs.declared.form.Mode.TheVariants.{Steps}
 use Rattle.uv_report.specs.declared.record.Record.{Record}
 use Rattle.uv_report.specs.Report.{report_of}
 use Rattle.uv_run.specs.Texts.{fault_line, too_long_line}
-use Rattle.uv_run.specs.Playing.{FollowsScript}
+use Rattle.uv_run.specs.Follows.{FollowsScript}
+
+-- a record that tells nothing
+abbrev pub empty_record : Record
+empty_record = record { history = []; replies = []; left = [] }
 
 -- nothing is told
-pub record IsEmptyRecord (told : Record) : Type 0 where
-  pub history : told.history ≡ []
-  pub replies : told.replies ≡ []
-  pub left : told.left ≡ []
+abbrev pub IsEmptyRecord : Record → Type 0
+IsEmptyRecord told = told ≡ empty_record
 
 -- a fault of the sink cut a text short: a prefix of it was written
 pub record IsCutShort (old new : Option (List ℕ)) (before now : ℕ) (text : List ℕ) : Type 0 where
@@ -29,8 +32,8 @@ WritesUnlessFault old new before now text = Appends old new text ⊎ IsCutShort 
 -- these bytes are a script, and the record follows it
 pub record RunsBytes (bytes : List ℕ) (told : Record) : Type 0 where
   pub lines : List Line
-  pub script : script_of bytes ≡ Ok lines
-  pub follows : FollowsScript lines told.history told.replies told.left
+  pub script : script_of Steps bytes ≡ Ok lines
+  pub follows : FollowsScript lines told
 
 -- all that was left was read, it is a script, and the record follows it
 pub record RunsScript (old new : Option (List ℕ)) (told : Record) : Type 0 where
@@ -41,7 +44,7 @@ pub record RunsScript (old new : Option (List ℕ)) (told : Record) : Type 0 whe
 -- the first line of bytes that is outside the language, if there is one, is told
 pub record TellsFault (bytes : List ℕ) (old new : Option (List ℕ)) (before now : ℕ) : Type 0 where
   pub line : ℕ
-  pub script : script_of bytes ≡ Err line
+  pub script : script_of Steps bytes ≡ Err line
   pub text : WritesUnlessFault old new before now (fault_line line)
 
 -- all that was left was read, it is no script, and its first line that is outside the language is told
@@ -76,7 +79,7 @@ pub record IsScriptLeft (left : Option (List ℕ)) : Type 0 where
   pub known : left ≡ Some bytes
   pub bound : length bytes ≤ SCRIPT_BYTES
   pub lines : List Line
-  pub script : script_of bytes ≡ Ok lines
+  pub script : script_of Steps bytes ≡ Ok lines
 
 -- the script was run, or memory ran out
 abbrev pub IsRunOrNoMemory : ℕ → Type 0

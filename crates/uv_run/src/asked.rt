@@ -1,39 +1,17 @@
-//! What the lines of a script ask of the machine, each form in one row.
+//! What the lines of a script ask of the site, each form in one row.
 
-ghost use Rattle.std.specs.Prelude.{◌≡◌, ◌<◌};
-ghost use Rattle.uv_num.specs.declared.limits.TheConstants.{FILES};
-ghost use Rattle.uv_script.specs.Ranges.{HasRanges, IsBuilt};
-ghost use Rattle.uv_run.specs.Asking.{IsClient, IsInReach};
-ghost use Rattle.uv_run.specs.Playing.{client_of, handle_of, asked_by_command, asked_by_line};
+ghost use Rattle.std.specs.Prelude.{◌≡◌, ◌<◌, find};
+ghost use Rattle.std.specs.Option.{option_copied};
+ghost use Rattle.uv_script.specs.Ranges.{MayDo};
+ghost use Rattle.uv_run.specs.Asking.{call_of_verb, destroy_request, handle_if, request_by, task_of};
+ghost use Rattle.uv_run.specs.Ranges.{IsInDeed};
+ghost use Rattle.uv_run.specs.Stand.{given, handle_of};
 
+use crate::flight::Task;
 use crate::replies::Replies;
-use uv_num::{Errno, Request};
-use uv_script::{Form, Handle};
-
-/// What a client asks of the machine.
-#[derive(Clone, Copy, Debug, PartialEq)]
-pub enum Asked {
-    /// To open a file on a device.
-    Opens { file: u32, device: u32 },
-    /// To make a request on a file.
-    Calls { file: u32, request: Request },
-    /// Nothing: it gave command bytes that are refused with this errno.
-    Refused { errno: Errno },
-}
-
-/// The client of a line.
-pub fn client_of(form: Form) -> u32
-    requires { HasRanges form }
-    ensures client { result ≡ client_of form }
-    ensures range { IsClient result }
-{
-    match form {
-        Form::Open { client, .. } => client,
-        Form::AllocPd { client, .. } => client,
-        Form::DeallocPd { client, .. } => client,
-        Form::Raw { client, .. } => client,
-    }
-}
+use uv_num::{Errno, Kind, Request};
+use uv_schema::check;
+use uv_script::{Deed, Handle, Verb};
 
 /// The handle that a word stands for, after these replies.
 fn handle_of(replies: &Replies, handle: Handle) -> u32
@@ -45,37 +23,114 @@ fn handle_of(replies: &Replies, handle: Handle) -> u32
     }
 }
 
-/// What command bytes ask for.
-fn asked_by_command(file: u32, command: Result<Request, Errno>) -> Asked
-    requires file { file < FILES }
-    requires built { IsBuilt command }
-    ensures asked { result ≡ asked_by_command file command }
-    ensures range { IsInReach result }
+fn handle_if(replies: &Replies, handle: Option<Handle>) -> Option<u32>
+    ensures { result ≡ handle_if replies.now handle }
 {
-    match command {
-        Ok(request) => Asked::Calls { file, request },
-        Err(errno) => Asked::Refused { errno },
+    match handle {
+        None => None,
+        Some(handle) => Some(handle_of(replies, handle)),
     }
 }
 
-/// What a line asks for, after these replies.
-pub fn asked_by_line(replies: &Replies, form: Form) -> Asked
-    requires { HasRanges form }
-    ensures asked { result ≡ asked_by_line replies.now form }
-    ensures range { IsInReach result }
+/// The request that destroys an object of a kind.
+fn destroy_request(kind: Kind, handle: u32) -> Request
+    ensures { result ≡ destroy_request kind handle }
 {
-    match form {
-        Form::Open { file, device, .. } => Asked::Opens { file, device },
-        Form::AllocPd { file, .. } => Asked::Calls {
-            file,
-            request: Request::AllocPd,
+    match kind {
+        Kind::Pd => Request::DeallocPd { pd: handle },
+        Kind::Channel => Request::DestroyChannel { channel: handle },
+        Kind::Cq => Request::DestroyCq { cq: handle },
+        Kind::Qp => Request::DestroyQp { qp: handle },
+        Kind::Srq => Request::DestroySrq { srq: handle },
+        Kind::Ah => Request::DestroyAh { ah: handle },
+        Kind::Mr => Request::DeregMr { mr: handle },
+        Kind::Mw => Request::DeallocMw { mw: handle },
+    }
+}
+
+/// The request of a call, after these replies.
+fn request_by(replies: &Replies, verb: Verb) -> Request
+    ensures { result ≡ request_by replies.now verb }
+{
+    match verb {
+        Verb::AllocPd => Request::AllocPd,
+        Verb::CreateChannel => Request::CreateChannel,
+        Verb::CreateCq { depth, channel } => Request::CreateCq {
+            depth,
+            channel: handle_if(replies, channel),
         },
-        Form::DeallocPd { file, pd, .. } => Asked::Calls {
-            file,
-            request: Request::DeallocPd {
-                pd: handle_of(replies, pd),
-            },
+        Verb::CreateSrq { pd, depth } => Request::CreateSrq {
+            pd: handle_of(replies, pd),
+            depth,
         },
-        Form::Raw { file, command, .. } => asked_by_command(file, command),
+        Verb::CreateQp {
+            pd,
+            send_cq,
+            recv_cq,
+            srq,
+            service,
+            send_depth,
+            recv_depth,
+        } => Request::CreateQp {
+            pd: handle_of(replies, pd),
+            send_cq: handle_of(replies, send_cq),
+            recv_cq: handle_of(replies, recv_cq),
+            srq: handle_if(replies, srq),
+            service,
+            send_depth,
+            recv_depth,
+        },
+        Verb::CreateAh { pd, device } => Request::CreateAh {
+            pd: handle_of(replies, pd),
+            device,
+        },
+        Verb::RegMr { pd, length, access } => Request::RegMr {
+            pd: handle_of(replies, pd),
+            length,
+            access,
+        },
+        Verb::AllocMw { pd } => Request::AllocMw {
+            pd: handle_of(replies, pd),
+        },
+        Verb::Destroy { kind, object } => destroy_request(kind, handle_of(replies, object)),
+        Verb::BindMw {
+            mw,
+            mr,
+            offset,
+            length,
+            access,
+        } => Request::BindMw {
+            mw: handle_of(replies, mw),
+            mr: handle_if(replies, mr),
+            offset,
+            length,
+            access,
+        },
+        Verb::GetAsync => Request::GetAsync,
+    }
+}
+
+fn call_of_verb(file: u32, request: Request, checked: Result<(), Errno>) -> Result<Task, Errno>
+    ensures { result ≡ call_of_verb file request checked }
+{
+    match checked {
+        Ok(()) => Ok(Task::Calls { file, request }),
+        Err(errno) => Err(errno),
+    }
+}
+
+/// What a line asks of the site after these replies, or its refusal before anything begins.
+pub fn task_of(replies: &Replies, deed: Deed) -> Result<Task, Errno>
+    ensures { result ≡ task_of replies.now deed }
+{
+    match deed {
+        Deed::Open { file, device } => Ok(Task::Opens { file, device }),
+        Deed::Call { file, verb } => {
+            let request = request_by(replies, verb);
+            call_of_verb(file, request, check(&request))
+        }
+        Deed::Refused(errno) => Err(errno),
+        Deed::Close { file } => Ok(Task::Closes { file }),
+        Deed::Unplug { device } => Ok(Task::Unplugs { device }),
     }
 }

@@ -1,22 +1,30 @@
-//! A run: a script is read, its lines are played on the object-graph machine, and the report of what became of them
-//! is written.
+//! A run: a script is read, its lines are played on the object core, and the report of what became of them is written.
 //!
 //! A program's `main` calls `start`, which has the clauses of `run`. They speak by `script_of`, the lines of a script's
 //! bytes, by `FollowsScript`, what a record has to do with lines, and by `report_of`, the bytes of a report.
 #![tactic(auto)]
 
 mod asked;
-mod ending;
-mod machine;
+mod beginning;
+mod deeds;
+mod flight;
+mod heard;
+pub mod laws;
+mod lines;
 mod outcome;
 mod play;
-mod playing;
 mod replies;
+mod reply;
+mod running;
+mod sayings;
+mod stepping;
+mod tearing;
 #[cfg(test)]
 mod tests;
 mod texts;
 mod top;
 mod words;
+mod world;
 
 pub use outcome::Done;
 pub use texts::{fault_text, too_long_text, usage_text};

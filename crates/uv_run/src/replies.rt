@@ -1,34 +1,35 @@
-//! The replies of a script's lines, and the handles that they tell.
+//! The replies so far, and the handles that they tell.
 
 ghost use Rattle.std.specs.Prelude.{◌≡◌, ◌++◌, [], ◌∷◌, OnOk, OnErr};
-ghost use Rattle.uv_run.specs.Playing.{handle_told, given};
+ghost use Rattle.uv_run.specs.Stand.{given};
 
+use crate::reply::Reply;
+use crate::sayings::handle_told;
 use std::alloc::{AllocError, Global};
 use std::collections::BTreeMap;
 use std::marker::Model;
 use uv_num::{List, NONE};
-use uv_report::{Said, Saying};
 
 /// The replies so far, which contracts see as their list, in the order in which they came.
 ///
-/// Beside the list stands the handle that the last text of each line tells, so that the lines that declare names are
+/// Beside the list stands the handle that the last reply to each line tells, so that the lines that declare names are
 /// found without a walk over the replies.
 #[derive(Drop)]
 pub struct Replies {
-    said: List<Said>,
+    list: List<Reply>,
     handles: BTreeMap<u32, u32>,
 }
 
 impl Model for Replies {
     ghost use Rattle.std.specs.Prelude.{List};
-    ghost use Rattle.uv_report.specs.declared.record.Said.{Said};
-    ghost use Rattle.uv_run.specs.Handles.{AreTold};
+    ghost use Rattle.uv_run.specs.declared.reply.Reply.{Reply};
+    ghost use Rattle.uv_run.specs.Handles.{AreKept};
 
-    ghost Value = { List Said };
+    ghost Value = { List Reply };
 
-    ghost view = { λ r. r.said };
+    ghost view = { λ r. r.list };
 
-    ghost invariant = { λ r. AreTold r.handles r.said };
+    ghost invariant = { λ r. AreKept r.handles r.list };
 }
 
 impl Replies {
@@ -37,66 +38,33 @@ impl Replies {
         ensures { result ≡ [] }
     {
         Replies {
-            said: List::new(alloc),
+            list: List::new(alloc),
             handles: BTreeMap::new(alloc),
         }
     }
 
     /// Puts a reply after the others. On an error nothing changes.
-    pub fn put(&mut self, said: Said) -> Result<(), AllocError>
-        ensures ok { OnOk result (self.new ≡ self.old ++ said ∷ []) }
+    pub fn put(&mut self, reply: Reply) -> Result<(), AllocError>
+        ensures ok { OnOk result (self.new ≡ self.old ++ reply ∷ []) }
         ensures err { OnErr result (self.new ≡ self.old) }
     {
-        self.said.push(said)?;
+        self.list.push(reply)?;
         if self
             .handles
-            .insert(said.line, handle_told(said.text))
+            .insert(reply.line, handle_told(reply.answer))
             .is_err()
         {
             // List and handles are put together, or neither is.
-            let _ = self.said.pop();
+            let _ = self.list.pop();
             return Err(AllocError);
         }
         Ok(())
     }
 
-    /// The handle that the create on this line was given, as the last of its texts says. `NONE` where it was refused.
+    /// The handle that the create on this line was given. `NONE` where it was refused or hasn't ended.
     pub fn given(&self, line: u32) -> u32
         ensures { result ≡ given self.now line }
     {
         self.handles.get(&line).copied().unwrap_or(NONE)
-    }
-
-    /// The replies as a list.
-    pub fn into_list(self) -> List<Said>
-        ensures { result ≡ self }
-    {
-        let Replies { said, handles } = self;
-        // They can be read off the list again.
-        let _ = handles;
-        said
-    }
-}
-
-/// The handle that a text has, or `NONE`.
-fn handle_told(text: Saying) -> u32
-    ensures { result ≡ handle_told text }
-{
-    match text {
-        Saying::Handle(handle) | Saying::Pair { handle, .. } | Saying::Key { handle, .. } => handle,
-        Saying::Ok
-        | Saying::State { .. }
-        | Saying::DeviceFatal
-        | Saying::Refused(_)
-        | Saying::Began
-        | Saying::Step { .. }
-        | Saying::Tear(_)
-        | Saying::Kill(_)
-        | Saying::Gone(_)
-        | Saying::Dissociated(_)
-        | Saying::Closed(_)
-        | Saying::NotYet(_)
-        | Saying::TornBy(_)
-        | Saying::Idle => NONE,
     }
 }

@@ -7,7 +7,7 @@ ghost use Rattle.uv_io.specs.Faults.{Rose};
 ghost use Rattle.uv_io.specs.Whole.{ReadsPrefix, ReadsCount};
 ghost use Rattle.uv_run.specs.Outcome.{IsEmptyRecord, IsCutShort, WritesUnlessFault, RunsBytes, RunsScript, TellsFault, RefusesScript, IsScriptLeft, IsRunOrNoMemory, IsBytesStatus, IsStepsStatus, Reports, ReportsCutShort, FailsReading, RefusesLength};
 ghost use Rattle.uv_report.specs.Report.{report_of};
-ghost use Rattle.uv_run.specs.Playing.{FollowsScript};
+ghost use Rattle.uv_run.specs.Follows.{FollowsScript};
 ghost use Rattle.uv_run.specs.Texts.{fault_line, too_long_line, usage_line};
 ghost use Rattle.uv_run.specs.Words.{AreSteps, AreGivenSteps};
 
@@ -63,9 +63,9 @@ fn write_report<K: Sink>(sink: &mut K, text: &[u8]) -> u8
 /// Runs the lines of a script, and writes the report.
 fn run_lines<K: Sink>(alloc: Global, script: &Script, sink: &mut K) -> Done
     ensures statuses { IsRunOrNoMemory result.status ⊎ (result.status ≡ 4) }
-    ensures whole { result.status ≡ 0 → FollowsScript script.now result.told.history result.told.replies result.told.left }
+    ensures whole { result.status ≡ 0 → FollowsScript script.now result.told }
     ensures report { result.status ≡ 0 → Appends (K.written sink.old) (K.written sink.new) (report_of result.told) }
-    ensures part { result.status ≡ 4 → FollowsScript script.now result.told.history result.told.replies result.told.left }
+    ensures part { result.status ≡ 4 → FollowsScript script.now result.told }
     ensures cut { result.status ≡ 4 → IsCutShort (K.written sink.old) (K.written sink.new) (K.faults sink.old) (K.faults sink.new) (report_of result.told) }
     ensures silent { result.status ≡ 5 → sink.new ≡ sink.old }
     ensures told { result.status ≡ 5 → IsEmptyRecord result.told }

@@ -1,139 +1,204 @@
 -- What a line says is in its ranges.
-use Rattle.std.proofs.Common.{◌≡◌, ℕ, zero, suc, ◌<◌, ◌≤◌, List, [], ◌∷◌, ◌++◌, length, get_or, refl, sym, ap, subst, arith, Bool, true, false, cond, not, ◌&&◌, nat_lt, nat_le, Option, Some, None, option_and_then, Result, Ok, Err}
-use Rattle.std.proofs.lemmas.Bool.{ltb-true, leb-true, and_parts}
+use Rattle.std.proofs.Common.{◌≡◌, ℕ, zero, suc, ◌<◌, ◌==◌, List, [], ◌∷◌, ◌++◌, length, get_or, refl, sym, ap, subst, arith, Bool, true, false, cond, not, ◌&&◌, nat_lt, nat_le, Option, Some, None, option_and_then, Result, Ok, Err}
+use Rattle.std.proofs.lemmas.Bool.{ltb-true, leb-true, eqb-true, eqb-false, and_parts}
 use Rattle.std.proofs.lemmas.List.Elements.{All-append}
 use Rattle.std.specs.List.{All}
 use Rattle.uv_num.specs.declared.errno.Errno.{Errno}
+use Rattle.uv_num.specs.declared.kind.Kind.{Kind}
 use Rattle.uv_num.specs.declared.request.Request.{Request}
 use Rattle.uv_schema.specs.Commands.{command_of}
-use Rattle.uv_script.specs.Built.{is_built}
+use Rattle.uv_script.specs.Before.{Before, is_dead}
+use Rattle.uv_script.specs.Built.{verb_for}
+use Rattle.uv_script.specs.Bytes.{spelled_bytes}
+use Rattle.uv_script.specs.Deeds.{calls, opens, command_deed, gives_command, gives_bytes, verb_deed, naming_after, Stated, stated, client_deed, unplug_word, driver_deed, deed_of}
+use Rattle.uv_script.specs.Heads.{head_word, actor_head, last_byte, without_last}
 use Rattle.uv_script.specs.Lines.{text_of, is_plain_text}
-use Rattle.uv_script.specs.Words.{words_of, only_of}
 use Rattle.uv_script.specs.Names.{Look}
-use Rattle.uv_script.specs.Places.{numbered, as_client, as_file, as_device, client_word, file_word, device_word}
-use Rattle.uv_script.specs.Ranges.{IsCaller, HasRanges, IsInRange}
-use Rattle.uv_script.specs.Reading.{Reading, Outside, Nothing, Says, Declares, reading_of, text_reading, is_remark, words_reading, given_client, behind_client, given_file, behind_file, given_verb, verb_of, behind_verb, says_open, says_dealloc_pd, says_command, says_raw, create, declaring, is_undeclared, device_operand, handle_operand, bytes_operand}
-use Rattle.uv_script.specs.Script.{reading_at, lines_at}
+use Rattle.uv_script.specs.Operands.{Asks, create_operands, destroy_operands, bind_operands}
+use Rattle.uv_script.specs.Places.{numbered, as_client, as_file, as_device, client_word, actor_word, file_word, device_word}
+use Rattle.uv_script.specs.Ranges.{IsClient, IsActor, IsCaller, MayDo, HasRanges, IsInRange}
+use Rattle.uv_script.specs.Reading.{Reading, Outside, Nothing, Says, says_plain, says_minus, living, says_plus, says_die, head_reading, given_head, words_reading, is_remark, text_reading, reading_of}
+use Rattle.uv_script.specs.Script.{lines_at}
+use Rattle.uv_script.specs.Verbs.{verb_word, kind_made}
+use Rattle.uv_script.specs.Words.{words_of, only_of, first_as}
+use Rattle.uv_script.specs.declared.form.Deed.{Deed}
+use Rattle.uv_script.specs.declared.form.Deed.TheVariants as deed
 use Rattle.uv_script.specs.declared.form.Form.{Form}
-use Rattle.uv_script.specs.declared.form.Form.TheVariants.{AllocPd, Raw}
-use Rattle.uv_script.specs.declared.form.Handle.{Handle}
+use Rattle.uv_script.specs.declared.form.Form.TheVariants.{Plus, Die}
 use Rattle.uv_script.specs.declared.form.Line.{Line}
-use Rattle.uv_script.specs.declared.reading.Verb.{Verb}
-use Rattle.uv_script.specs.declared.reading.Verb.TheVariants as verb
+use Rattle.uv_script.specs.declared.heads.Head.{Head}
+use Rattle.uv_script.specs.declared.heads.Head.TheVariants as head
+use Rattle.uv_script.specs.declared.verbs.VerbWord.{VerbWord}
+use Rattle.uv_script.specs.declared.verbs.VerbWord.TheVariants as verb
+use Rattle.uv_script.proofs.Taken.{OfSome, choice-of, and_then-of, map-of, map-any, OfTaken, first_as-of, then_take-of, then_take-any}
+
+-- Places.
+
+as_client-range : (n : ℕ) → OfSome IsClient (as_client n)
+as_client-range n =
+    choice-of IsClient (nat_le 1 n && nat_le n 8) (Some n) None (λ yes.
+    let both : (nat_le 1 n ≡ true) × (nat_le n 8 ≡ true) = and_parts (nat_le 1 n) (nat_le n 8) yes in
+    record { first = leb-true 1 n both.0; last = leb-true n 8 both.1 }) (λ no. tt)
+
+as_file-range : (n : ℕ) → OfSome (λ f. f < 16) (as_file n)
+as_file-range n = choice-of (λ f. f < 16) (nat_lt n 16) (Some n) None (λ yes. ltb-true n 16 yes) (λ no. tt)
+
+as_device-range : (n : ℕ) → OfSome (λ d. d < 2) (as_device n)
+as_device-range n = choice-of (λ d. d < 2) (nat_lt n 2) (Some n) None (λ yes. ltb-true n 2 yes) (λ no. tt)
+
+client_word-range : (word : List ℕ) → OfSome IsClient (client_word word)
+client_word-range word = and_then-of IsClient as_client (numbered 99 word) as_client-range
+
+file_word-range : (word : List ℕ) → OfSome (λ f. f < 16) (file_word word)
+file_word-range word = and_then-of (λ f. f < 16) as_file (numbered 102 word) as_file-range
+
+device_word-range : (word : List ℕ) → OfSome (λ d. d < 2) (device_word word)
+device_word-range word = and_then-of (λ d. d < 2) as_device (numbered 100 word) as_device-range
+
+client-actor : (o : Option ℕ) → OfSome IsClient o → OfSome IsActor o
+client-actor None holds = tt
+client-actor (Some a) holds = record { first = holds.first; last = omega (arith, holds.last) }
+
+actor_word-range : (word : List ℕ) → OfSome IsActor (actor_word word)
+actor_word-range word =
+    choice-of IsActor _ (Some 9) (client_word word) (λ yes. record { first = omega arith; last = omega arith }) (λ no. client-actor (client_word word) (client_word-range word))
+
+-- Heads.
+
+abbrev pub IsHeadInRange : Head → Type 0
+IsHeadInRange (head.Plain actor) = IsActor actor
+IsHeadInRange (head.Minus actor) = IsActor actor
+IsHeadInRange (head.Plus actor) = IsActor actor
+IsHeadInRange head.Die = Unit {0}
+
+actor_head-range : (word : List ℕ) → OfSome IsHeadInRange (actor_head word)
+actor_head-range word =
+    choice-of IsHeadInRange (last_byte word == 45) _ _ (λ yes. map-of IsActor IsHeadInRange head.Minus (actor_word (without_last word)) (actor_word-range (without_last word)) (λ a holds. holds)) (λ no.
+    choice-of IsHeadInRange (last_byte word == 43) _ _ (λ yes. map-of IsActor IsHeadInRange head.Plus (actor_word (without_last word)) (actor_word-range (without_last word)) (λ a holds. holds)) (λ no2.
+    map-of IsActor IsHeadInRange head.Plain (actor_word word) (actor_word-range word) (λ a holds. holds)))
+
+head_word-range : (word : List ℕ) → OfSome IsHeadInRange (head_word word)
+head_word-range word = choice-of IsHeadInRange _ (Some head.Die) (actor_head word) (λ yes. tt) (λ no. actor_head-range word)
+
+-- Deeds.
+
+calls-range : (client file : ℕ) (asks : Asks) → IsCaller client file → OfTaken (MayDo client) (calls file asks)
+calls-range client file asks caller = map-any (λ t. MayDo client t.0) _ asks (λ t. caller)
+
+opens-range : (client file : ℕ) (words : List (List ℕ)) → IsCaller client file → OfTaken (MayDo client) (opens file words)
+opens-range client file words caller =
+    then_take-of (λ d. d < 2) (λ t. MayDo client t.0) (first_as device_word words) _ (first_as-of (λ d. d < 2) device_word words device_word-range) (λ device rest below. (caller, below))
+
+command_deed-range : (client file : ℕ) (command : Result Request Errno) → IsCaller client file → OfSome (MayDo client) (command_deed file command)
+command_deed-range client file (Err errno) caller = caller.client
+command_deed-range client file (Ok request) caller = map-any (MayDo client) (deed.Call file) (verb_for request) (λ v. caller)
+
+gives-range : (client file : ℕ) (bytes : List ℕ) (rest : List (List ℕ)) → IsCaller client file → OfTaken (MayDo client) (gives_command file bytes rest)
+gives-range client file bytes rest caller =
+    map-of (MayDo client) (λ t. MayDo client t.0) (λ d. (d, rest)) (command_deed file (command_of bytes)) (command_deed-range client file (command_of bytes) caller) (λ d holds. holds)
+
+gives_bytes-range : (client file : ℕ) (words : List (List ℕ)) → IsCaller client file → OfTaken (MayDo client) (gives_bytes file words)
+gives_bytes-range client file words caller =
+    then_take-any (λ t. MayDo client t.0) (first_as spelled_bytes words) (gives_command file) (λ bytes rest. gives-range client file bytes rest caller)
+
+verb_deed-range : (look : Look) (client file : ℕ) (v : VerbWord) (words : List (List ℕ)) → IsCaller client file → OfTaken (MayDo client) (verb_deed look file v words)
+verb_deed-range look client file verb.Open words caller = opens-range client file words caller
+verb_deed-range look client file verb.Close words caller = caller
+verb_deed-range look client file verb.Raw words caller = gives_bytes-range client file words caller
+verb_deed-range look client file (verb.Create kind) words caller = calls-range client file (create_operands look kind words) caller
+verb_deed-range look client file (verb.Destroy kind) words caller = calls-range client file (destroy_operands look kind words) caller
+verb_deed-range look client file verb.BindMw words caller = calls-range client file (bind_operands look words) caller
+verb_deed-range look client file verb.GetAsync words caller = caller
+
+-- the deed of a line is one that the actor may do
+abbrev pub IsStatedInRange : ℕ → Option Stated → Type 0
+IsStatedInRange actor told = OfSome (λ s. MayDo actor s.deed) told
+
+stated-range : (look : Look) (made : Option Kind) (actor : ℕ) (does : Deed) (rest : List (List ℕ)) → MayDo actor does → IsStatedInRange actor (stated look made does rest)
+stated-range look made actor does rest may = map-any (λ s. MayDo actor s.deed) _ (naming_after look made rest) (λ naming. may)
+
+client_deed-range : (look : Look) (client : ℕ) (words : List (List ℕ)) → IsClient client → IsStatedInRange client (client_deed look words)
+client_deed-range look client words some =
+    then_take-of (λ f. f < 16) (λ s. MayDo client s.deed) (first_as file_word words) _ (first_as-of (λ f. f < 16) file_word words file_word-range) (λ file rest1 below.
+    then_take-any (λ s. MayDo client s.deed) (first_as verb_word rest1) _ (λ v rest2.
+    then_take-of (MayDo client) (λ s. MayDo client s.deed) (verb_deed look file v rest2) _ (verb_deed-range look client file v rest2 (record { client = some; below = below })) (λ does rest3 may.
+    stated-range look (kind_made v) client does rest3 may)))
+
+driver_deed-range : (look : Look) (words : List (List ℕ)) → IsStatedInRange 9 (driver_deed look words)
+driver_deed-range look words =
+    then_take-any (λ s. MayDo 9 s.deed) (first_as unplug_word words) _ (λ unplug rest1.
+    then_take-of (λ d. d < 2) (λ s. MayDo 9 s.deed) (first_as device_word rest1) _ (first_as-of (λ d. d < 2) device_word rest1 device_word-range) (λ device rest2 below.
+    stated-range look None 9 (deed.Unplug device) rest2 (refl, below)))
+
+-- an actor that isn't the driver is a client
+is-client : (actor : ℕ) → IsActor actor → (actor ≡ 9 → ⊥) → IsClient actor
+is-client actor some other = record { first = some.first; last = omega (arith, some.last, other) }
+
+by-driver : (look : Look) (actor : ℕ) (words : List (List ℕ)) → actor ≡ 9 → IsStatedInRange actor (driver_deed look words)
+by-driver look actor words is = let P : ℕ → Type 0 = λ a. IsStatedInRange a (driver_deed look words) in subst P (sym is) (driver_deed-range look words)
+
+deed_of-range : (before : Before) (actor : ℕ) (words : List (List ℕ)) → IsActor actor → IsStatedInRange actor (deed_of before actor words)
+deed_of-range before actor words some =
+    choice-of (λ s. MayDo actor s.deed) (is_dead before actor) None _ (λ dead. tt) (λ alive.
+    choice-of (λ s. MayDo actor s.deed) (actor == 9) (driver_deed before.look words) (client_deed before.look words)
+    (λ yes. by-driver before.look actor words (eqb-true actor 9 yes))
+    (λ no. client_deed-range before.look actor words (is-client actor some (eqb-false actor 9 no))))
+
+-- Readings.
 
 -- what is said is in its ranges
 abbrev pub IsReadInRange : Reading → Type 0
 IsReadInRange Outside = Unit {0}
 IsReadInRange Nothing = Unit {0}
-IsReadInRange (Says form) = HasRanges form
-IsReadInRange (Declares form name) = HasRanges form
-
-and_then-some : {A B : Type 0} (f : A → Option B) (o : Option A) (b : B) → option_and_then f o ≡ Some b → (a : A) × (f a ≡ Some b)
-and_then-some f None b e = cc
-and_then-some f (Some a) b e = (a, e)
-
--- a choice of something or nothing that is there is the first
-chosen_first : (b : Bool) (x z : ℕ) → cond b (Some x) None ≡ Some z → (b ≡ true) × (x ≡ z)
-chosen_first true x z e = (refl, cc)
-chosen_first false x z e = cc
-
-as_client-range : (n c : ℕ) → as_client n ≡ Some c → (1 ≤ c) × (c ≤ 8)
-as_client-range n c e =
-    let parts : ((nat_le 1 n && nat_le n 8) ≡ true) × (n ≡ c) = chosen_first (nat_le 1 n && nat_le n 8) n c e in
-    let both : (nat_le 1 n ≡ true) × (nat_le n 8 ≡ true) = and_parts (nat_le 1 n) (nat_le n 8) parts.0 in
-    (omega (arith, leb-true 1 n both.0, parts.1), omega (arith, leb-true n 8 both.1, parts.1))
-
-as_file-range : (n c : ℕ) → as_file n ≡ Some c → c < 16
-as_file-range n c e =
-    let parts : (nat_lt n 16 ≡ true) × (n ≡ c) = chosen_first (nat_lt n 16) n c e in
-    omega (arith, ltb-true n 16 parts.0, parts.1)
-
-as_device-range : (n c : ℕ) → as_device n ≡ Some c → c < 2
-as_device-range n c e =
-    let parts : (nat_lt n 2 ≡ true) × (n ≡ c) = chosen_first (nat_lt n 2) n c e in
-    omega (arith, ltb-true n 2 parts.0, parts.1)
-
-client_of-range : (word : List ℕ) (c : ℕ) → client_word word ≡ Some c → (1 ≤ c) × (c ≤ 8)
-client_of-range word c e = let n : (a : ℕ) × (as_client a ≡ Some c) = and_then-some as_client (numbered 99 word) c e in as_client-range n.0 c n.1
-
-file_of-range : (word : List ℕ) (c : ℕ) → file_word word ≡ Some c → c < 16
-file_of-range word c e = let n : (a : ℕ) × (as_file a ≡ Some c) = and_then-some as_file (numbered 102 word) c e in as_file-range n.0 c n.1
-
-device_of-range : (word : List ℕ) (c : ℕ) → device_word word ≡ Some c → c < 2
-device_of-range word c e = let n : (a : ℕ) × (as_device a ≡ Some c) = and_then-some as_device (numbered 100 word) c e in as_device-range n.0 c n.1
-
-device_operand-range : (words : List (List ℕ)) (c : ℕ) → device_operand words ≡ Some c → c < 2
-device_operand-range words c e = let w : (word : List ℕ) × (device_word word ≡ Some c) = and_then-some device_word (only_of words) c e in device_of-range w.0 c w.1
+IsReadInRange (Says form naming) = HasRanges form
 
 choice-range : (b : Bool) (x y : Reading) → IsReadInRange x → IsReadInRange y → IsReadInRange (cond b x y)
 choice-range true x y in_x in_y = in_x
 choice-range false x y in_x in_y = in_y
 
-named-range : (look : Look) (form : Form) (name : Option (List ℕ)) → HasRanges form → IsReadInRange (declaring look form name)
-named-range look form None ranges = tt
-named-range look form (Some name) ranges = choice-range (is_undeclared look name) (Declares form name) Outside ranges tt
+says_plain-range : (actor : ℕ) (told : Option Stated) → IsStatedInRange actor told → IsReadInRange (says_plain actor told)
+says_plain-range actor None may = tt
+says_plain-range actor (Some told) may = may
 
-create-range : (look : Look) (form : Form) (words : List (List ℕ)) → HasRanges form → IsReadInRange (create look form words)
-create-range look form [] ranges = ranges
-create-range look form (word ∷ words) ranges = choice-range _ (declaring look form (only_of words)) Outside (named-range look form (only_of words) ranges) tt
+says_minus-range : (actor : ℕ) (told : Option Stated) → IsStatedInRange actor told → IsReadInRange (says_minus actor told)
+says_minus-range actor None may = tt
+says_minus-range actor (Some told) may = may
 
-says_open-range : (client file : ℕ) (device : Option ℕ) → IsCaller client file → ((d : ℕ) → device ≡ Some d → d < 2) → IsReadInRange (says_open client file device)
-says_open-range client file None caller range = tt
-says_open-range client file (Some d) caller range = (caller, range d refl)
+living-range : (before : Before) (actor : ℕ) (form : Form) → HasRanges form → IsReadInRange (living before actor form)
+living-range before actor form ranges = choice-range (is_dead before actor) Outside (Says form None) tt ranges
 
-says_dealloc_pd-range : (client file : ℕ) (pd : Option Handle) → IsCaller client file → IsReadInRange (says_dealloc_pd client file pd)
-says_dealloc_pd-range client file None caller = tt
-says_dealloc_pd-range client file (Some pd) caller = caller
+says_plus-range : (before : Before) (actor : ℕ) (words : List (List ℕ)) → IsActor actor → IsReadInRange (says_plus before actor words)
+says_plus-range before actor [] some = living-range before actor (Plus actor) some
+says_plus-range before actor (word ∷ words) some = tt
 
-built-range : (client file : ℕ) (request : Request) (b : Bool) → is_built request ≡ b → IsCaller client file → IsReadInRange (cond b (Says (Raw client file (Ok request))) Outside)
-built-range client file request true is caller = (caller, is)
-built-range client file request false is caller = tt
+says_die-range : (before : Before) (client : Option ℕ) → OfSome IsClient client → IsReadInRange (says_die before client)
+says_die-range before None some = tt
+says_die-range before (Some client) some = living-range before client (Die client) some
 
-says_command-range : (client file : ℕ) (command : Result Request Errno) → IsCaller client file → IsReadInRange (says_command client file command)
-says_command-range client file (Err errno) caller = (caller, tt)
-says_command-range client file (Ok request) caller = built-range client file request (is_built request) refl caller
+head_reading-range : (before : Before) (h : Head) (words : List (List ℕ)) → IsHeadInRange h → IsReadInRange (head_reading before h words)
+head_reading-range before (head.Plain actor) words some = says_plain-range actor (deed_of before actor words) (deed_of-range before actor words some)
+head_reading-range before (head.Minus actor) words some = says_minus-range actor (deed_of before actor words) (deed_of-range before actor words some)
+head_reading-range before (head.Plus actor) words some = says_plus-range before actor words some
+head_reading-range before head.Die words some =
+    says_die-range before (option_and_then client_word (only_of words)) (and_then-of IsClient client_word (only_of words) client_word-range)
 
-says_raw-range : (client file : ℕ) (bytes : Option (List ℕ)) → IsCaller client file → IsReadInRange (says_raw client file bytes)
-says_raw-range client file None caller = tt
-says_raw-range client file (Some bytes) caller = says_command-range client file (command_of bytes) caller
+given_head-range : (before : Before) (words : List (List ℕ)) (h : Option Head) → OfSome IsHeadInRange h → IsReadInRange (given_head before words h)
+given_head-range before words None some = tt
+given_head-range before words (Some h) some = head_reading-range before h words some
 
-behind_verb-range : (look : Look) (v : Verb) (client file : ℕ) (words : List (List ℕ)) → IsCaller client file → IsReadInRange (behind_verb look v client file words)
-behind_verb-range look verb.Open client file words caller = says_open-range client file (device_operand words) caller (device_operand-range words)
-behind_verb-range look verb.AllocPd client file words caller = create-range look (AllocPd client file) words caller
-behind_verb-range look verb.DeallocPd client file words caller = says_dealloc_pd-range client file (handle_operand look words) caller
-behind_verb-range look verb.Raw client file words caller = says_raw-range client file (bytes_operand words) caller
+words_reading-range : (before : Before) (words : List (List ℕ)) → IsReadInRange (words_reading before words)
+words_reading-range before [] = tt
+words_reading-range before (word ∷ words) = given_head-range before words (head_word word) (head_word-range word)
 
-with_verb-range : (look : Look) (client file : ℕ) (words : List (List ℕ)) (v : Option Verb) → IsCaller client file → IsReadInRange (given_verb look client file words v)
-with_verb-range look client file words None caller = tt
-with_verb-range look client file words (Some v) caller = behind_verb-range look v client file words caller
-
-behind_file-range : (look : Look) (client file : ℕ) (words : List (List ℕ)) → IsCaller client file → IsReadInRange (behind_file look client file words)
-behind_file-range look client file [] caller = tt
-behind_file-range look client file (word ∷ words) caller = with_verb-range look client file words (verb_of word) caller
-
-with_file-range : (look : Look) (client : ℕ) (words : List (List ℕ)) (file : Option ℕ) → (1 ≤ client) × (client ≤ 8) → ((f : ℕ) → file ≡ Some f → f < 16) → IsReadInRange (given_file look client words file)
-with_file-range look client words None some range = tt
-with_file-range look client words (Some f) some range = behind_file-range look client f words (record { first = some.0; last = some.1; below = range f refl })
-
-behind_client-range : (look : Look) (client : ℕ) (words : List (List ℕ)) → (1 ≤ client) × (client ≤ 8) → IsReadInRange (behind_client look client words)
-behind_client-range look client [] some = tt
-behind_client-range look client (word ∷ words) some = with_file-range look client words (file_word word) some (file_of-range word)
-
-with_client-range : (look : Look) (words : List (List ℕ)) (client : Option ℕ) → ((c : ℕ) → client ≡ Some c → (1 ≤ c) × (c ≤ 8)) → IsReadInRange (given_client look words client)
-with_client-range look words None range = tt
-with_client-range look words (Some c) range = behind_client-range look c words (range c refl)
-
-words_reading-range : (look : Look) (words : List (List ℕ)) → IsReadInRange (words_reading look words)
-words_reading-range look [] = tt
-words_reading-range look (word ∷ words) = with_client-range look words (client_word word) (client_of-range word)
-
-text_reading-range : (look : Look) (text : List ℕ) → IsReadInRange (text_reading look text)
-text_reading-range look text =
+text_reading-range : (before : Before) (text : List ℕ) → IsReadInRange (text_reading before text)
+text_reading-range before text =
     choice-range (not (is_plain_text text)) Outside _ tt
-    (choice-range (is_remark text) Nothing (words_reading look (words_of text)) tt (words_reading-range look (words_of text)))
+    (choice-range (is_remark text) Nothing (words_reading before (words_of text)) tt (words_reading-range before (words_of text)))
 
-reading_at-range : (number : ℕ) (look : Look) (line : List ℕ) → IsReadInRange (reading_at number (reading_of look line))
-reading_at-range number look line = choice-range (nat_lt 20000 number) Outside (reading_of look line) tt (text_reading-range look (text_of line))
+reading_of-range : (before : Before) (line : List ℕ) → IsReadInRange (reading_of before line)
+reading_of-range before line = choice-range (nat_lt 20000 before.number) Outside (text_reading before (text_of line)) tt (text_reading-range before (text_of line))
+
+-- Lines.
 
 one-range : (line : Line) → IsInRange line → (k : ℕ) (d : Line) → k < length (line ∷ []) → IsInRange (get_or (line ∷ []) k d)
 one-range line range zero d below = range
@@ -145,19 +210,18 @@ none-range k d below = absurd (omega arith)
 lines_at-range : (number : ℕ) (reading : Reading) → IsReadInRange reading → All IsInRange (lines_at number reading)
 lines_at-range number Outside range = none-range
 lines_at-range number Nothing range = none-range
-lines_at-range number (Says form) range = one-range (record { number = number; form = form }) range
-lines_at-range number (Declares form name) range = one-range (record { number = number; form = form }) range
+lines_at-range number (Says form naming) range = one-range (record { number = number; form = form }) range
 
 -- no lines are in range
 pub no-lines : (lines : List Line) → lines ≡ [] → All IsInRange lines
 no-lines lines none = let P : List Line → Type 0 = All IsInRange in subst P (sym none) none-range
 
 -- with what a line adds the lines stay in their ranges
-pub more-lines : (number : ℕ) (look : Look) (line : List ℕ) (reading : Reading) (lines next : List Line) → All IsInRange lines → reading ≡ reading_at number (reading_of look line) → next ≡ lines ++ lines_at number reading → All IsInRange next
-more-lines number look line reading lines next ranges is put =
+pub more-lines : (before : Before) (line : List ℕ) (reading : Reading) (lines next : List Line) → All IsInRange lines → reading ≡ reading_of before line → next ≡ lines ++ lines_at before.number reading → All IsInRange next
+more-lines before line reading lines next ranges is put =
     let P : Reading → Type 0 = IsReadInRange in
     let Q : List Line → Type 0 = All IsInRange in
-    subst Q (sym put) (All-append IsInRange lines (lines_at number reading) ranges (lines_at-range number reading (subst P (sym is) (reading_at-range number look line))))
+    subst Q (sym put) (All-append IsInRange lines (lines_at before.number reading) ranges (lines_at-range before.number reading (subst P (sym is) (reading_of-range before line))))
 
 -- the line at a place is in its ranges
 pub in_range-at : (lines shown whole : List Line) (place : ℕ) (d : Line) → shown ≡ lines → lines ≡ whole → place < length whole → All IsInRange lines → IsInRange (get_or shown place d)

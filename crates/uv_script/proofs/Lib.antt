@@ -1,6 +1,10 @@
 mod FirstLines
 mod FirstWords
+mod Fronts
 mod InRange
 mod Joins
 mod Left
+mod Namings
+mod Silence
+mod Taken
 mod Values

@@ -1,27 +1,38 @@
--- The requests that a line can make today.
-use Rattle.std.specs.Prelude.{Bool, true, false}
+-- The requests that a line can make today, and what such a line asks for.
+use Rattle.std.specs.Prelude.{ℕ, Option, Some, None}
+use Rattle.std.specs.Option.{option_map}
+use Rattle.uv_num.specs.declared.kind.Kind.{Kind}
+use Rattle.uv_num.specs.declared.kind.Kind.TheVariants as kind
 use Rattle.uv_num.specs.declared.request.Request.{Request}
 use Rattle.uv_num.specs.declared.request.Request.TheVariants.{AllocPd, DeallocPd, CreateChannel, DestroyChannel, CreateCq, DestroyCq, CreateQp, DestroyQp, ModifyQp, QueryQp, CreateSrq, DestroySrq, CreateAh, DestroyAh, RegMr, DeregMr, AllocMw, DeallocMw, BindMw, GetAsync}
+use Rattle.uv_script.specs.declared.form.Handle.TheVariants.{Number}
+use Rattle.uv_script.specs.declared.form.Verb.{Verb}
+use Rattle.uv_script.specs.declared.form.Verb.TheVariants as verb
 
--- whether the line of a request is built
-abbrev pub is_built : Request → Bool
-is_built AllocPd = true
-is_built (DeallocPd pd) = true
-is_built CreateChannel = false
-is_built (DestroyChannel channel) = false
-is_built (CreateCq depth channel) = false
-is_built (DestroyCq cq) = false
-is_built (CreateQp pd send_cq recv_cq srq service send_depth recv_depth) = false
-is_built (DestroyQp qp) = false
-is_built (ModifyQp qp to attrs) = false
-is_built (QueryQp qp) = false
-is_built (CreateSrq pd depth) = false
-is_built (DestroySrq srq) = false
-is_built (CreateAh pd device) = false
-is_built (DestroyAh ah) = false
-is_built (RegMr pd length access) = false
-is_built (DeregMr mr) = false
-is_built (AllocMw pd) = false
-is_built (DeallocMw mw) = false
-is_built (BindMw mw mr offset length access) = false
-is_built GetAsync = false
+-- the destroy of an object of a kind by its number
+abbrev pub destroy : Kind → ℕ → Option Verb
+destroy k object = Some (verb.Destroy k (Number object))
+
+-- what a line asks for that makes this request, its handles by their numbers
+abbrev pub verb_for : Request → Option Verb
+verb_for AllocPd = Some verb.AllocPd
+verb_for (DeallocPd pd) = destroy kind.Pd pd
+verb_for CreateChannel = Some verb.CreateChannel
+verb_for (DestroyChannel channel) = destroy kind.Channel channel
+verb_for (CreateCq depth channel) = Some (verb.CreateCq depth (option_map Number channel))
+verb_for (DestroyCq cq) = destroy kind.Cq cq
+verb_for (CreateQp pd send_cq recv_cq srq service send_depth recv_depth) =
+    Some (verb.CreateQp (Number pd) (Number send_cq) (Number recv_cq) (option_map Number srq) service send_depth recv_depth)
+verb_for (DestroyQp qp) = destroy kind.Qp qp
+verb_for (ModifyQp qp to attrs) = None
+verb_for (QueryQp qp) = None
+verb_for (CreateSrq pd depth) = Some (verb.CreateSrq (Number pd) depth)
+verb_for (DestroySrq srq) = destroy kind.Srq srq
+verb_for (CreateAh pd device) = Some (verb.CreateAh (Number pd) device)
+verb_for (DestroyAh ah) = destroy kind.Ah ah
+verb_for (RegMr pd length access) = Some (verb.RegMr (Number pd) length access)
+verb_for (DeregMr mr) = destroy kind.Mr mr
+verb_for (AllocMw pd) = Some (verb.AllocMw (Number pd))
+verb_for (DeallocMw mw) = destroy kind.Mw mw
+verb_for (BindMw mw mr offset length access) = Some (verb.BindMw (Number mw) (option_map Number mr) offset length access)
+verb_for GetAsync = Some verb.GetAsync

@@ -1,8 +1,10 @@
--- Names, and the lines that declare them.
-use Rattle.std.specs.Prelude.{◌≡◌, ℕ, Bool, ◌==◌, ◌&&◌, ◌||◌, nat_le, List, [], ◌∷◌, length, slice_index, Option, Some, None, if◌then◌else◌}
+-- Names, and what is known of each.
+use Rattle.std.specs.Prelude.{ℕ, Bool, ◌==◌, ◌&&◌, ◌||◌, nat_le, List, length, slice_index, Option, Some, None, if◌then◌else◌}
 use Rattle.std.specs.List.{list_all}
 use Rattle.std.specs.Str.{bytes_eq}
+use Rattle.uv_num.specs.declared.kind.Kind.{Kind}
 use Rattle.uv_num.specs.declared.limits.TheConstants.{NAME_CHARACTERS}
+use Rattle.uv_script.specs.declared.names.Known.{Known}
 
 abbrev pub is_small_letter : ℕ → Bool
 is_small_letter b = nat_le 97 b && nat_le b 122
@@ -17,28 +19,24 @@ are_name_bytes word = list_all is_name_byte word
 abbrev pub is_name : List ℕ → Bool
 is_name word = is_small_letter (slice_index word 0) && nat_le (length word) NAME_CHARACTERS && are_name_bytes word
 
--- a name with the line that declares it
-pub record Known : Type 0 where
-  pub name : List ℕ
-  pub line : ℕ
-
--- which line declares a name
+-- what is known of a name, if it is declared
 abbrev pub Look : Type 0
-Look = List ℕ → Option ℕ
+Look = List ℕ → Option Known
 
 -- no name is declared
-abbrev pub no_line : Look
-no_line name = None
+abbrev pub no_names : Look
+no_names name = None
 
--- the line that declares a name, if one of these does, and else the one that is found behind them
-abbrev pub line_among : List Known → Look → Look
-line_among [] look name = look name
-line_among (known ∷ names) look name = if bytes_eq known.name name then Some known.line else line_among names look name
+-- one name more
+abbrev pub with_name : List ℕ → Known → Look → Look
+with_name name known look other = if bytes_eq name other then Some known else look other
 
--- the line that declares a name, if one of these does
-abbrev pub line_named : List Known → Look
-line_named names name = line_among names no_line name
+-- a name that a line declares, and the kind of what the line creates
+pub record Naming : Type 0 where
+  pub name : List ℕ
+  pub kind : Kind
 
--- these names are found, and else what was found before
-abbrev pub FindsAlso : List Known → Look → Look → Type 0
-FindsAlso names before now = (name : List ℕ) → now name ≡ line_among names before name
+-- with what a line of this number declares
+abbrev pub with_naming : ℕ → Option Naming → Look → Look
+with_naming number None look = look
+with_naming number (Some naming) look = with_name naming.name (record { line = number; kind = naming.kind }) look

@@ -1,9 +1,10 @@
--- The words for clients, files and devices: a letter, and a decimal number behind it.
-use Rattle.std.specs.Prelude.{ℕ, ◌==◌, ◌&&◌, nat_lt, nat_le, List, [], ◌∷◌, Option, Some, None, if◌then◌else◌, option_and_then}
-use Rattle.uv_num.specs.declared.limits.TheConstants.{CLIENTS, FILES, DEVICES}
+-- The words for clients, actors, files and devices.
+use Rattle.std.specs.Prelude.{ℕ, ◌==◌, ◌&&◌, nat_lt, nat_le, nat_eq, List, [], ◌∷◌, codes, Option, Some, None, if◌then◌else◌, option_and_then}
+use Rattle.std.specs.Cmp.Lexicographic.{pointwise}
+use Rattle.uv_num.specs.declared.limits.TheConstants.{CLIENTS, DRIVER, FILES, DEVICES}
 use Rattle.uv_script.specs.Numbers.{decimal_of}
 
--- the decimal number behind a letter
+-- the decimal number after a letter
 abbrev pub numbered : ℕ → List ℕ → Option ℕ
 numbered letter [] = None
 numbered letter (c ∷ ds) = if c == letter then decimal_of ds else None
@@ -20,6 +21,10 @@ as_device n = if nat_lt n DEVICES then Some n else None
 -- `c1` to `c8`
 abbrev pub client_word : List ℕ → Option ℕ
 client_word word = option_and_then as_client (numbered 99 word)
+
+-- a client, or `drv`
+abbrev pub actor_word : List ℕ → Option ℕ
+actor_word word = if pointwise nat_eq word (codes "drv") then Some DRIVER else client_word word
 
 -- `f0` to `f15`
 abbrev pub file_word : List ℕ → Option ℕ

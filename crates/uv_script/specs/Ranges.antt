@@ -1,30 +1,41 @@
 -- The ranges of what lines say.
-use Rattle.std.specs.Prelude.{ℕ, ◌<◌, ◌≤◌, List, All, length, Result, Ok, Err, IsTrue}
-use Rattle.uv_num.specs.declared.limits.TheConstants.{CLIENTS, FILES, DEVICES, SCRIPT_LINES}
-use Rattle.uv_num.specs.declared.errno.Errno.{Errno}
-use Rattle.uv_num.specs.declared.request.Request.{Request}
-use Rattle.uv_script.specs.Built.{is_built}
+use Rattle.std.specs.Prelude.{◌≡◌, ℕ, ◌<◌, ◌≤◌, List, All, length}
+use Rattle.uv_num.specs.declared.limits.TheConstants.{CLIENTS, DRIVER, FILES, DEVICES, SCRIPT_LINES}
+use Rattle.uv_script.specs.declared.form.Deed.{Deed}
+use Rattle.uv_script.specs.declared.form.Deed.TheVariants.{Open, Call, Refused, Close, Unplug}
 use Rattle.uv_script.specs.declared.form.Form.{Form}
-use Rattle.uv_script.specs.declared.form.Form.TheVariants.{Open, AllocPd, DeallocPd, Raw}
+use Rattle.uv_script.specs.declared.form.Form.TheVariants.{Plain, Minus, Plus, Die}
 use Rattle.uv_script.specs.declared.form.Line.{Line}
 
+-- a client
+pub record IsClient (actor : ℕ) : Type 0 where
+  pub first : 1 ≤ actor
+  pub last : actor ≤ CLIENTS
+
+-- a client or the driver
+pub record IsActor (actor : ℕ) : Type 0 where
+  pub first : 1 ≤ actor
+  pub last : actor ≤ DRIVER
+
 -- a client and a file
-pub record IsCaller (client file : ℕ) : Type 0 where
-  pub first : 1 ≤ client
-  pub last : client ≤ CLIENTS
+pub record IsCaller (actor file : ℕ) : Type 0 where
+  pub client : IsClient actor
   pub below : file < FILES
 
--- the line of the request that a command asks for, if it isn't refused, is built
-abbrev pub IsBuilt : Result Request Errno → Type 0
-IsBuilt (Ok request) = IsTrue (is_built request)
-IsBuilt (Err errno) = Unit {0}
+-- an actor may do this: a client what is done on files, and the driver an unplug
+abbrev pub MayDo : ℕ → Deed → Type 0
+MayDo actor (Open file device) = IsCaller actor file × (device < DEVICES)
+MayDo actor (Call file verb) = IsCaller actor file
+MayDo actor (Refused errno) = IsClient actor
+MayDo actor (Close file) = IsCaller actor file
+MayDo actor (Unplug device) = (actor ≡ DRIVER) × (device < DEVICES)
 
--- the clients, files and devices of a form are some
+-- the actors, files and devices of a form are some
 abbrev pub HasRanges : Form → Type 0
-HasRanges (Open client file device) = IsCaller client file × (device < DEVICES)
-HasRanges (AllocPd client file) = IsCaller client file
-HasRanges (DeallocPd client file pd) = IsCaller client file
-HasRanges (Raw client file command) = IsCaller client file × IsBuilt command
+HasRanges (Plain actor deed) = MayDo actor deed
+HasRanges (Minus actor deed) = MayDo actor deed
+HasRanges (Plus actor) = IsActor actor
+HasRanges (Die client) = IsClient client
 
 abbrev pub IsInRange : Line → Type 0
 IsInRange line = HasRanges line.form

@@ -1,57 +1,70 @@
 -- Which bytes are a script, and what it says.
-use Rattle.std.specs.Prelude.{◌≡◌, ℕ, ◌+◌, Bool, true, false, nat_lt, List, [], ◌∷◌, ◌++◌, Result, Ok, Err, if◌then◌else◌}
-use Rattle.uv_num.specs.declared.limits.TheConstants.{SCRIPT_LINES}
+use Rattle.std.specs.Prelude.{◌≡◌, ℕ, ◌+◌, Bool, true, false, List, [], ◌∷◌, ◌++◌, Result, Ok, Err, if◌then◌else◌}
+use Rattle.uv_script.specs.Before.{Before, at_start}
 use Rattle.uv_script.specs.Lines.{lines_of}
-use Rattle.uv_script.specs.Names.{Known, line_named}
-use Rattle.uv_script.specs.Reading.{Reading, Outside, Nothing, Says, Declares, reading_of}
+use Rattle.uv_script.specs.Names.{with_naming}
+use Rattle.uv_script.specs.Reading.{Reading, Outside, Nothing, Says, reading_of}
+use Rattle.uv_script.specs.declared.form.Form.{Form}
+use Rattle.uv_script.specs.declared.form.Form.TheVariants.{Plain, Minus, Plus, Die}
 use Rattle.uv_script.specs.declared.form.Line.{Line}
+use Rattle.uv_script.specs.declared.form.Mode.{Mode}
+use Rattle.uv_script.specs.declared.form.Mode.TheVariants.{Steps}
 use Rattle.uv_script.specs.declared.form.ScriptFault.{ScriptFault}
 use Rattle.uv_script.specs.declared.form.ScriptFault.TheVariants.{At, NoMemory}
 use Rattle.uv_script.specs.declared.script.Script.{Script}
 
--- a line over the limit is outside the language
-abbrev pub reading_at : ℕ → Reading → Reading
-reading_at number reading = if nat_lt SCRIPT_LINES number then Outside else reading
+-- A line, and what it leaves for the next one.
 
 abbrev pub is_outside : Reading → Bool
 is_outside Outside = true
 is_outside Nothing = false
-is_outside (Says form) = false
-is_outside (Declares form name) = false
+is_outside (Says form naming) = false
 
 -- what a line of this number adds to the lines of a script
 abbrev pub lines_at : ℕ → Reading → List Line
 lines_at number Outside = []
 lines_at number Nothing = []
-lines_at number (Says form) = record { number = number; form = form } ∷ []
-lines_at number (Declares form name) = record { number = number; form = form } ∷ []
+lines_at number (Says form naming) = record { number = number; form = form } ∷ []
 
--- what a line of this number adds to the names that are declared
-abbrev pub names_at : ℕ → Reading → List Known
-names_at number Outside = []
-names_at number Nothing = []
-names_at number (Says form) = []
-names_at number (Declares form name) = record { name = name; line = number } ∷ []
+-- the client that a form lets die
+abbrev pub dying : Form → List ℕ
+dying (Plain actor deed) = []
+dying (Minus actor deed) = []
+dying (Plus actor) = []
+dying (Die client) = client ∷ []
+
+-- what stands before the next line
+abbrev pub after_line : Before → Reading → Before
+after_line before Outside = before
+after_line before Nothing = record { number = before.number + 1; look = before.look; dead = before.dead }
+after_line before (Says form naming) =
+    record { number = before.number + 1; look = with_naming before.number naming before.look; dead = before.dead ++ dying form }
+
+-- what the end of the bytes is after all lines: nothing is missing
+abbrev pub end_of_lines : Mode → Before → Result (List Line) ℕ
+end_of_lines Steps before = Ok []
+
+-- The lines of a script.
 
 -- lines in front of those of a script
-abbrev pub behind : List Line → Result (List Line) ℕ → Result (List Line) ℕ
-behind lines (Ok more) = Ok (lines ++ more)
-behind lines (Err number) = Err number
+abbrev pub in_front_of : List Line → Result (List Line) ℕ → Result (List Line) ℕ
+in_front_of lines (Ok more) = Ok (lines ++ more)
+in_front_of lines (Err number) = Err number
 
--- a line in front of what the lines behind it are
+-- a line in front of what the lines after it are
 abbrev pub line_then : ℕ → Reading → Result (List Line) ℕ → Result (List Line) ℕ
-line_then number reading more = if is_outside reading then Err number else behind (lines_at number reading) more
+line_then number reading more = if is_outside reading then Err number else in_front_of (lines_at number reading) more
 
--- the lines of a script, the first of this number and behind lines that declare these names, the newest first, or the number of the first line that is outside
-abbrev pub script_from : ℕ → List Known → List (List ℕ) → Result (List Line) ℕ
-script_from number names [] = Ok []
-script_from number names (text ∷ texts) =
-    let reading = reading_at number (reading_of (line_named names) text) in
-    line_then number reading (script_from (number + 1) (names_at number reading ++ names) texts)
+-- the lines of a script from a line on, or the number of the first line that is outside
+abbrev pub script_from : Mode → Before → List (List ℕ) → Result (List Line) ℕ
+script_from mode before [] = end_of_lines mode before
+script_from mode before (text ∷ texts) =
+    let reading = reading_of before text in
+    line_then before.number reading (script_from mode (after_line before reading) texts)
 
 -- the lines of a script, or the number of the first line that is outside the language
-abbrev pub script_of : List ℕ → Result (List Line) ℕ
-script_of bytes = script_from 1 [] (lines_of bytes)
+abbrev pub script_of : Mode → List ℕ → Result (List Line) ℕ
+script_of mode bytes = script_from mode at_start (lines_of bytes)
 
 -- what each answer of a reading says of the bytes
 abbrev pub ParsedAs : Result (List Line) ℕ → Result Script ScriptFault → Type 0

@@ -1,17 +1,22 @@
 //! The language of scripts: which bytes are a script, and what its lines say.
 //!
 //! `parse` is what the layers above use: it reads bytes to a `Script`, or names the first line that is outside
-//! the language. The grammar stands in `specs/` as definitions on bytes, lines and words; a line form is one
-//! case of `Verb` there and here. Command bytes of a raw line are read by `uv_schema`'s `command`, and a line holds
-//! what they ask for.
+//! the language. The grammar stands in `specs/` as definitions on bytes, lines and words: what the lines in front leave
+//! (`Before`), the head of a line (`Heads`), the table of verbs (`Verbs`) and what each takes (`Operands`, `Deeds`).
+//! Command bytes of a raw line are read by `uv_schema`'s `command`, and a line holds what they ask for.
 #![tactic(auto)]
 
 mod built;
 mod bytes;
+mod context;
+mod deeds;
 mod form;
+mod handles;
+mod heads;
 mod laws;
 mod names;
 mod numbers;
+mod operands;
 mod parsing;
 mod places;
 mod reading;
@@ -19,9 +24,10 @@ mod script;
 mod splits;
 #[cfg(test)]
 mod tests;
+mod verbs;
 mod words;
 
-pub use form::{Form, Handle, Line, Mode, ScriptFault};
-pub use laws::lines_join;
+pub use form::{Deed, Form, Handle, Line, Mode, ScriptFault, Verb};
+pub use laws::{lines_join, names_stand_for_lines_above, the_dead_are_silent};
 pub use parsing::parse;
 pub use script::Script;

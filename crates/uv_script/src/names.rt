@@ -1,42 +1,77 @@
-//! Names, and the lines that declare them.
+//! Names, and what is known of each.
 
-ghost use Rattle.std.specs.Prelude.{◌≡◌, [], ◌∷◌, OnOk, slice_index};
-ghost use Rattle.uv_script.specs.Names.{is_name, is_small_letter, is_name_byte, are_name_bytes, no_line, FindsAlso};
+ghost use Rattle.std.specs.Prelude.{◌≡◌, OnOk, slice_index};
+ghost use Rattle.uv_script.specs.Names.{is_name, is_small_letter, is_name_byte, are_name_bytes, no_names, with_name, with_naming};
 
 use std::alloc::{AllocError, Global};
 use std::collections::BTreeMap;
-use uv_num::NAME_CHARACTERS;
+use uv_num::{Kind, NAME_CHARACTERS};
 
-/// The names that were declared, each with the line that declares it. They stay in the bytes of the script.
+/// What is known of a name that is declared.
+#[derive(Clone, Copy)]
+pub(crate) struct Known {
+    /// The line that declares it.
+    pub(crate) line: u32,
+    /// The kind of what that line creates.
+    pub(crate) kind: Kind,
+}
+
+/// A name that a line declares, and the kind of what the line creates.
+#[derive(Clone, Copy)]
+pub(crate) struct Naming<'a> {
+    pub(crate) name: &'a [u8],
+    pub(crate) kind: Kind,
+}
+
+/// The names that were declared. They stay in the bytes of the script.
 #[derive(Drop)]
 pub(crate) struct Names<'a> {
-    lines: BTreeMap<&'a [u8], u32>,
+    known: BTreeMap<&'a [u8], Known>,
 }
 
 impl<'a> Names<'a> {
-    ghost use Rattle.uv_script.specs.Kept.{line_kept};
+    ghost use Rattle.uv_script.specs.Kept.{look_kept, naming_seen};
 
     /// No names. It takes no memory.
     pub(crate) fn new(alloc: Global) -> Names<'a>
-        ensures { FindsAlso [] no_line (line_kept result) }
+        ensures { look_kept result ≡ no_names }
     {
         Names {
-            lines: BTreeMap::new(alloc),
+            known: BTreeMap::new(alloc),
         }
     }
 
-    /// The line that declares a name.
-    pub(crate) fn line(&self, name: &[u8]) -> Option<u32>
-        ensures { result ≡ line_kept self.now name.now }
+    /// What is known of a name.
+    pub(crate) fn get(&self, name: &[u8]) -> Option<Known>
+        ensures { result ≡ look_kept self.now name.now }
     {
-        self.lines.get(name).copied()
+        self.known.get(name).copied()
     }
 
-    /// Declares a name.
-    pub(crate) fn declare(&mut self, name: &'a [u8], line: u32) -> Result<(), AllocError>
-        ensures { OnOk result (FindsAlso (record { name = name.now; line = line } ∷ []) (line_kept self.old) (line_kept self.new)) }
+    /// Declares the name of the line of this number, if it declares one.
+    pub(crate) fn declare(
+        &mut self,
+        number: u32,
+        naming: Option<Naming<'a>>,
+    ) -> Result<(), AllocError>
+        ensures { OnOk result (look_kept self.new ≡ with_naming number (naming_seen naming.entry) (look_kept self.old)) }
     {
-        self.lines.insert(name, line)?;
+        match naming {
+            None => Ok(()),
+            Some(naming) => self.put(
+                naming.name,
+                Known {
+                    line: number,
+                    kind: naming.kind,
+                },
+            ),
+        }
+    }
+
+    fn put(&mut self, name: &'a [u8], known: Known) -> Result<(), AllocError>
+        ensures { OnOk result (look_kept self.new ≡ with_name name.now known (look_kept self.old)) }
+    {
+        self.known.insert(name, known)?;
         Ok(())
     }
 }

@@ -1,12 +1,11 @@
 //! Bytes as a script.
 
-ghost use Rattle.std.specs.Prelude.{◌≡◌, ◌++◌, IfOk, OnOk};
-ghost use Rattle.uv_script.specs.Names.{FindsAlso};
-ghost use Rattle.uv_script.specs.Kept.{line_kept};
-ghost use Rattle.uv_script.specs.Reading.{seen, reading_of};
-ghost use Rattle.uv_script.specs.Script.{script_of, ParsedAs, reading_at, is_outside, lines_at, names_at};
+ghost use Rattle.std.specs.Prelude.{◌≡◌, ◌≤◌, ◌++◌, OnOk};
+ghost use Rattle.uv_num.specs.declared.limits.TheConstants.{SCRIPT_LINES};
+ghost use Rattle.uv_script.specs.Kept.{before_in, seen};
+ghost use Rattle.uv_script.specs.Script.{script_of, ParsedAs, is_outside, lines_at, after_line};
 
-use crate::names::Names;
+use crate::context::{Context, put_dying};
 use crate::reading::{Read, read_line};
 use crate::splits::first_line;
 use crate::{Line, Mode, Script, ScriptFault};
@@ -18,76 +17,61 @@ use uv_num::{List, SCRIPT_LINES};
 /// is `#`, does nothing and has its number. There are at most `SCRIPT_LINES` lines. The language is this
 /// project's own.
 pub fn parse(alloc: Global, bytes: &[u8], mode: Mode) -> Result<Script, ScriptFault>
-    ensures { ParsedAs (script_of bytes.now) result }
+    ensures { ParsedAs (script_of mode bytes.now) result }
 {
     match mode {
         Mode::Steps => {}
     }
     let mut lines = List::new(alloc);
-    let mut names = Names::new(alloc);
+    let mut context = Context::new(alloc);
     let mut rest = bytes;
-    let mut number: u32 = 1;
     while !rest.is_empty() {
-        let (line, behind) = first_line(rest);
-        let Ok(read) = read_at(alloc, number, &names, line) else {
+        let (line, more) = first_line(rest);
+        let Ok(read) = read_line(alloc, &context, line) else {
             return Err(ScriptFault::NoMemory);
         };
-        if is_outside(read) {
-            return Err(ScriptFault::At(number));
+        if is_outside(&read) {
+            return Err(ScriptFault::At(context.number));
         }
-        if put_line(&mut lines, number, read).is_err()
-            || put_name(&mut names, number, read).is_err()
-        {
+        if put_read(&mut lines, &mut context, read).is_err() {
             return Err(ScriptFault::NoMemory);
         }
-        number += 1;
-        rest = behind;
+        rest = more;
     }
     Ok(Script::of(lines))
 }
 
-/// What a line of this number is. Lines over the limit are outside the language.
-fn read_at<'a>(
-    alloc: Global,
-    number: u32,
-    names: &Names<'_>,
-    line: &'a [u8],
-) -> Result<Read<'a>, AllocError>
-    ensures { IfOk result (λ read. seen read ≡ reading_at number (reading_of (line_kept names.now) line.now)) }
-{
-    if number as usize > SCRIPT_LINES {
-        return Ok(Read::Outside);
-    }
-    read_line(alloc, names, line)
-}
-
-fn is_outside(read: Read<'_>) -> bool
-    ensures { result ≡ is_outside (seen read.entry) }
+fn is_outside(read: &Read<'_>) -> bool
+    ensures { result ≡ is_outside (seen read.now) }
 {
     match read {
         Read::Outside => true,
-        Read::Nothing | Read::Says(_) | Read::Declares(_, _) => false,
+        Read::Nothing | Read::Says(_, _) => false,
     }
 }
 
-/// Puts what a line says behind the other lines.
-fn put_line(lines: &mut List<Line>, number: u32, read: Read<'_>) -> Result<(), AllocError>
-    ensures { OnOk result (lines.new ≡ lines.old ++ lines_at number (seen read.entry)) }
-{
-    match read {
-        Read::Outside | Read::Nothing => Ok(()),
-        Read::Says(form) | Read::Declares(form, _) => lines.push(Line { number, form }),
-    }
-}
-
-/// Declares the name that a line declares.
-fn put_name<'a>(names: &mut Names<'a>, number: u32, read: Read<'a>) -> Result<(), AllocError>
-    ensures { OnOk result (FindsAlso (names_at number (seen read.entry)) (line_kept names.old) (line_kept names.new)) }
+/// Puts what a line says with the other lines, and goes on to the next line.
+fn put_read<'a>(
+    lines: &mut List<Line>,
+    context: &mut Context<'a>,
+    read: Read<'a>,
+) -> Result<(), AllocError>
+    requires { context.old.number ≤ SCRIPT_LINES }
+    ensures lines { OnOk result (lines.new ≡ lines.old ++ lines_at context.old.number (seen read.entry)) }
+    ensures context { OnOk result (before_in context.new ≡ after_line (before_in context.old) (seen read.entry)) }
 {
     match read {
         Read::Outside => Ok(()),
-        Read::Nothing => Ok(()),
-        Read::Says(_) => Ok(()),
-        Read::Declares(_, name) => names.declare(name, number),
+        Read::Nothing => {
+            context.number += 1;
+            Ok(())
+        }
+        Read::Says(form, naming) => {
+            let number = context.number;
+            context.number = number + 1;
+            context.names.declare(number, naming)?;
+            put_dying(&mut context.dead, &form)?;
+            lines.push(Line { number, form })
+        }
     }
 }

@@ -1,16 +1,27 @@
-//! The words for clients, files and devices.
+//! The words for clients, actors, files and devices.
 
 ghost use Rattle.std.specs.Prelude.{◌≡◌};
-ghost use Rattle.uv_script.specs.Places.{client_word, file_word, device_word, as_client, as_file, as_device, numbered};
+ghost use Rattle.uv_script.specs.Places.{client_word, actor_word, file_word, device_word, as_client, as_file, as_device, numbered};
 
 use crate::numbers::decimal;
-use uv_num::{CLIENTS, DEVICES, FILES};
+use uv_num::{CLIENTS, DEVICES, DRIVER, FILES};
 
 /// The client that a word names: `c1` to `c8`.
 pub(crate) fn client(word: &[u8]) -> Option<u32>
     ensures { result ≡ client_word word.now }
 {
     as_client(numbered(b'c', word)?)
+}
+
+/// The actor that a word names: a client, or the driver, `drv`.
+pub(crate) fn actor(word: &[u8]) -> Option<u32>
+    ensures { result ≡ actor_word word.now }
+{
+    if word == b"drv".as_slice() {
+        Some(DRIVER)
+    } else {
+        client(word)
+    }
 }
 
 fn as_client(number: u64) -> Option<u32>
@@ -57,7 +68,7 @@ fn as_device(number: u64) -> Option<u32>
     }
 }
 
-/// The decimal number behind a letter.
+/// The decimal number after a letter.
 fn numbered(letter: u8, word: &[u8]) -> Option<u64>
     ensures { result ≡ numbered letter word.now }
 {

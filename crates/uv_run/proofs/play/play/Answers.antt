@@ -1,10 +1,48 @@
-use Rattle.std.proofs.Common.{map, filter, ap, ◌∙◌}
-use Rattle.uv_model.specs.Standing.{left_of, is_left}
-use Rattle.uv_run.proofs.Answerings.{follows_all}
+use Rattle.std.proofs.Common.{◌≡◌, List, ap, filter, map, subst, sym, ◌∙◌}
+use Rattle.uv_machine.specs.declared.entry.Entry.{Entry}
+use Rattle.uv_machine.specs.declared.object.Object.{Object}
+use Rattle.uv_machine.specs.Files.{AreOver}
+use Rattle.uv_machine.specs.Histories.{state_of}
+use Rattle.uv_machine.specs.Laws.{IsIdle}
+use Rattle.uv_model.specs.Standing.{is_left, left_of}
+use Rattle.uv_report.specs.declared.record.Said.{Said}
+use Rattle.uv_run.specs.Follows.{AnswersAll, AreAmong, said_of, start_stand}
+use Rattle.uv_run.specs.Lines.{PlaysAll}
+use Rattle.uv_run.specs.Runs.{stand_of}
+use Rattle.uv_run.specs.Stand.{Stand}
+use Rattle.uv_run.proofs.Answering.{answers_all}
+use Rattle.uv_run.proofs.Tellings.{tells_all}
 use Rattle.uv_run.proofs.play.play.Goals as goal
 
 pub returns : goal.returns
 returns c =
-    follows_all c.args.script.now c.play_lines.new.machine.history c.end.new.machine.history c.into_history.result c.in_ok-replies.replies c.in_ok-left.left c.in_ok-replies.ensures.plays
-    (c.in_ok-left.ensures ∙ ap (λ v. map left_of (filter is_left v)) c.objects.ensures) c.end.ensures.ends c.end.ensures.legal c.end.ensures.calls
-    c.into_history.ensures.history
+    let some = c.in_ok-play_all.ensures.plays in
+    let played = stand_of c.play_all.new.self in
+    let finished = stand_of c.finish.new.self in
+    let ended = stand_of c.end.new.self in
+    let P : Stand → Type 0 = λ v. PlaysAll v c.args.script.now played some.asked in
+    let plays = subst P c.in_ok-run.ensures.stand some.plays in
+    let history = c.into_record.ensures.history in
+    let replies = c.into_record.ensures.replies in
+    let I : List Entry → Type 0 = λ v. IsIdle (state_of v) in
+    let O : List Entry → Type 0 = λ v. AreOver (state_of v) in
+    let A : List Entry → Type 0 = λ v. AnswersAll some.asked ended.replies v in
+    let T : List Said → Type 0 = λ v. AreAmong (map said_of ended.replies) v in
+    record {
+      played = played;
+      finished = finished;
+      ended = ended;
+      asked = some.asked;
+      plays = plays;
+      finishes = c.in_ok-finish.ensures.finishes;
+      left = c.into_record.ensures.left ∙ c.in_ok-left.ensures ∙ ap (λ (v : List Object). map left_of (filter is_left v)) c.objects.ensures;
+      ends = c.in_ok-end.ensures.ends;
+      history = history;
+      replies = replies;
+      legal = c.into_record.ensures.legal;
+      idle = subst I (sym history) c.in_ok-end.ensures.idle;
+      over = subst O (sym history) c.in_ok-end.ensures.over;
+      answers = subst A (sym history) (answers_all c.args.script.now played finished ended some.asked c.in_ok-play_all.ensures.ranges c.in_ok-end.ensures.sound.sound.legal
+          (λ b first last. c.in_ok-end.ensures.sound.idle b (c.in_ok-finish.ensures.idle b first last)) plays c.in_ok-finish.ensures.finishes c.in_ok-end.ensures.ends);
+      tells = subst T (sym replies) (tells_all c.args.script.now played finished ended some.asked plays c.in_ok-finish.ensures.finishes c.in_ok-end.ensures.ends);
+    }
