@@ -5,3 +5,4 @@ pub mod Packets
 pub mod Reading
 pub mod Refusal
 pub mod Room
+pub mod Syndromes

@@ -1,6 +1,7 @@
 //! What the two directions have to do with each other.
 
 ghost use Rattle.std.specs.Prelude.{◌≡◌, ◌+◌, ◌%◌, ◌<◌, ◌≤◌, ℕ, List, None, Some, slice_index};
+ghost use Rattle.uv_packet.specs.Syndromes.{TellWhatTheyMean};
 ghost use Rattle.uv_packet.specs.Packets.{Content, ContentFits, IsPacket, IsPacketValue, bytes_of, pad_of};
 ghost use Rattle.uv_packet.specs.Reading.{dest_at};
 ghost use Rattle.uv_packet.specs.Refusal.{packet_of};
@@ -35,4 +36,9 @@ pub fn packet_has_one_reading()
 pub fn pad_is_the_least()
     ensures fills { (n : ℕ) → (n + pad_of n) % 4 ≡ 0 }
     ensures least { (n k : ℕ) → (n + k) % 4 ≡ 0 → pad_of n ≤ k }
+{}
+
+/// Each syndrome that is written tells what it means.
+pub fn syndromes_tell_what_they_mean()
+    ensures { TellWhatTheyMean }
 {}

@@ -18,6 +18,7 @@ mod laws;
 mod opcode;
 mod packet;
 mod refusing;
+mod syndrome;
 #[cfg(test)]
 mod tests;
 
@@ -27,7 +28,7 @@ pub use fault::PacketFault;
 pub use headers::Headers;
 pub use laws::{
     accepted_bytes_are_a_packet, dest_is_the_packets, packet_has_one_reading, packet_is_read,
-    pad_is_the_least, written_packet_is_read_back,
+    pad_is_the_least, syndromes_tell_what_they_mean, written_packet_is_read_back,
 };
 pub use opcode::Opcode;
 pub use packet::{
@@ -35,3 +36,6 @@ pub use packet::{
     Packet, RETH_BYTES, Reth,
 };
 pub use refusing::{dest_at, refusal};
+pub use syndrome::{
+    ACK, NAK_ACCESS, NAK_INVALID, NAK_OPERATION, NAK_SEQUENCE, RNR, Syndrome, told_by,
+};
