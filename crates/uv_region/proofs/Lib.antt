@@ -4,3 +4,4 @@ pub mod Lending
 pub mod Journaling
 pub mod Maps
 pub mod Reaching
+pub mod Roomy

@@ -56,7 +56,7 @@ room_untested lent key more kind piece domain = room_told (λ o. reached_allows 
 pub action_untested : (lent : Lent) (key : ℕ) (a : PlainAction) (kind : Access) (piece : Piece) (domain : ℕ) → lent_allows (lent_after lent key a) kind piece domain ≡ lent_allows lent kind piece domain
 action_untested lent key a kind piece domain = acted_told (λ o. reached_allows o kind piece domain) lent key a (λ r. refl) (map.get lent key) refl piece.key
 
-none_is : (o : Option Why) → is_none o ≡ true → o ≡ None
+pub none_is : (o : Option Why) → is_none o ≡ true → o ≡ None
 none_is None h = refl
 none_is (Some w) h = cc
 

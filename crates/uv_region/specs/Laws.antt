@@ -11,6 +11,7 @@ use Rattle.uv_region.specs.Replay.{standing, effect, replay_of}
 use Rattle.uv_region.specs.Journals.{PlainJournal, journal_of, IsJournal, IsKept, GoesOn}
 use Rattle.uv_region.specs.Acting.{after_action}
 use Rattle.uv_region.specs.Lent.{Lent, acting, lent_allows, lent_after, lent_with_room, MayAct, StaysKnown}
+use Rattle.uv_region.specs.Several.{lent_allows_all, with_rooms_for, writes_of, MayReadAll, MayWriteAll}
 
 -- An action that is allowed lies inside the region, in unbounded numbers, has its right and the region's domain, and
 -- passes its window; and one of which all this is true is allowed.
@@ -109,3 +110,18 @@ AllowedMayAct =
     (lent : Lent) (kind : Access) (piece : Piece) (bytes : List ℕ) (qp domain : ℕ)
     → lent_allows lent kind piece domain ≡ true
     → MayAct (lent_with_room lent piece.key 1) piece.key (acting kind piece bytes qp domain)
+
+-- What is allowed on each of several pieces may be made on one after another, once there is room for one action on each:
+-- also where two of them lie in one region.
+
+abbrev pub AllowedMayWriteAll : Type 0
+AllowedMayWriteAll =
+    (lent : Lent) (kind : Access) (pieces : List Piece) (bytes : List ℕ) (qp domain : ℕ)
+    → lent_allows_all lent kind domain pieces ≡ true
+    → MayWriteAll (with_rooms_for lent pieces) kind qp domain (writes_of pieces bytes)
+
+abbrev pub AllowedMayReadAll : Type 0
+AllowedMayReadAll =
+    (lent : Lent) (kind : Access) (pieces : List Piece) (qp domain : ℕ)
+    → lent_allows_all lent kind domain pieces ≡ true
+    → MayReadAll (with_rooms_for lent pieces) kind qp domain pieces

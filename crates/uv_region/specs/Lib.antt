@@ -6,4 +6,5 @@ pub mod Journals
 pub mod Acting
 pub mod Codes
 pub mod Lent
+pub mod Several
 pub mod Laws

@@ -1,6 +1,6 @@
 //! Laws of regions and journals.
 
-ghost use Rattle.uv_region.specs.Laws.{AllowedPassesAll, RefusedInOrder, TestsLookAtNoBytes, OutsideStays, WrittenStands, ActedIsKept, ReplayKeepsLength, GoesOnFromItself, GoesOnInTurn, ActedGoesOn, RoomIsNotKnown, RoomChangesNoTest, ActionChangesNoTest, AllowedMayAct};
+ghost use Rattle.uv_region.specs.Laws.{AllowedMayReadAll, AllowedMayWriteAll, AllowedPassesAll, RefusedInOrder, TestsLookAtNoBytes, OutsideStays, WrittenStands, ActedIsKept, ReplayKeepsLength, GoesOnFromItself, GoesOnInTurn, ActedGoesOn, RoomIsNotKnown, RoomChangesNoTest, ActionChangesNoTest, AllowedMayAct};
 
 /// An action is allowed exactly where it lies inside the region, has its right and the region's domain, and passes its
 /// window.
@@ -71,4 +71,14 @@ pub fn action_changes_no_test()
 /// What is allowed may be made once there is room for it.
 pub fn allowed_may_act()
     ensures { AllowedMayAct }
+{}
+
+/// What is allowed on several pieces may be written one after another, once there is room for all.
+pub fn allowed_may_write_all()
+    ensures { AllowedMayWriteAll }
+{}
+
+/// What is allowed on several pieces may be read one after another, once there is room for all.
+pub fn allowed_may_read_all()
+    ensures { AllowedMayReadAll }
 {}
