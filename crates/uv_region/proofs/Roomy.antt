@@ -9,7 +9,7 @@ use Rattle.uv_region.specs.declared.piece.Piece.{Piece}
 use Rattle.uv_region.specs.Actions.{PlainAction}
 use Rattle.uv_region.specs.Acting.{after_action, spent}
 use Rattle.uv_region.specs.Lent.{Lent, MayAct, ReachedRegion, acting, lent_after, lent_allows, lent_with_room, lent_with_rooms, reached_allows, via, with_acted, with_room}
-use Rattle.uv_region.specs.Several.{lent_allows_all, reading_of, with_rooms_for, writes_of, MayReadAll, MayWriteAll}
+use Rattle.uv_region.specs.Several.{lent_allows_all, piece_reading, with_rooms_for, writes_of, MayReadAll, MayWriteAll}
 use Rattle.uv_region.proofs.Lending.{tied_same}
 use Rattle.uv_region.proofs.Reaching.{none_is, room_untested}
 
@@ -95,7 +95,7 @@ write_each lent kind qp domain (piece ∷ pieces) bytes h =
 read_each : (lent : Lent) (kind : Access) (qp domain : ℕ) (pieces : List Piece) → AllRoom kind domain lent (length pieces) pieces → MayReadAll lent kind qp domain pieces
 read_each lent kind qp domain [] h = tt
 read_each lent kind qp domain (piece ∷ pieces) h =
-    let a : PlainAction = reading_of kind qp domain piece in (
+    let a : PlainAction = piece_reading kind qp domain piece in (
       may_by lent kind piece _ qp domain (length pieces) (map.get lent piece.key) refl h.0,
       read_each (lent_after lent piece.key a) kind qp domain pieces (all_spent lent piece.key a kind domain (length pieces) pieces h.1),
     )

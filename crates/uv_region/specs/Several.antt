@@ -10,11 +10,11 @@ use Rattle.uv_region.specs.Lent.{Lent, MayAct, acting, lent_after, lent_allows, 
 -- pieces
 
 -- whether each piece has bytes, and how many all have
-abbrev pub has_bytes : Piece → Bool
-has_bytes piece = nat_lt 0 piece.length
+abbrev pub holds_bytes : Piece → Bool
+holds_bytes piece = nat_lt 0 piece.length
 
 abbrev pub all_have_bytes : List Piece → Bool
-all_have_bytes pieces = list_all has_bytes pieces
+all_have_bytes pieces = list_all holds_bytes pieces
 
 abbrev pub piece_length : Piece → ℕ
 piece_length piece = piece.length
@@ -48,40 +48,40 @@ writes_of [] bytes = []
 writes_of (piece ∷ pieces) bytes = record { piece = piece; bytes = take piece.length bytes } ∷ writes_of pieces (drop piece.length bytes)
 
 -- the action that makes a write, before it has a window
-abbrev pub writing_of : Access → ℕ → ℕ → PlainWrite → PlainAction
-writing_of kind qp domain w = acting kind w.piece w.bytes qp domain
+abbrev pub piece_writing : Access → ℕ → ℕ → PlainWrite → PlainAction
+piece_writing kind qp domain w = acting kind w.piece w.bytes qp domain
 
 -- the regions after each write was made
 abbrev pub lent_written : Lent → Access → ℕ → ℕ → List PlainWrite → Lent
 lent_written lent kind qp domain [] = lent
-lent_written lent kind qp domain (w ∷ ws) = lent_written (lent_after lent w.piece.key (writing_of kind qp domain w)) kind qp domain ws
+lent_written lent kind qp domain (w ∷ ws) = lent_written (lent_after lent w.piece.key (piece_writing kind qp domain w)) kind qp domain ws
 
 -- each write may be made after those before it
 abbrev pub MayWriteAll : Lent → Access → ℕ → ℕ → List PlainWrite → Type 0
 MayWriteAll lent kind qp domain [] = Unit {0}
 MayWriteAll lent kind qp domain (w ∷ ws) =
-    MayAct lent w.piece.key (writing_of kind qp domain w) × MayWriteAll (lent_after lent w.piece.key (writing_of kind qp domain w)) kind qp domain ws
+    MayAct lent w.piece.key (piece_writing kind qp domain w) × MayWriteAll (lent_after lent w.piece.key (piece_writing kind qp domain w)) kind qp domain ws
 
 -- reads
 
 -- the action that reads a piece, before it has bytes and a window
-abbrev pub reading_of : Access → ℕ → ℕ → Piece → PlainAction
-reading_of kind qp domain piece = acting kind piece (replicate piece.length 0) qp domain
+abbrev pub piece_reading : Access → ℕ → ℕ → Piece → PlainAction
+piece_reading kind qp domain piece = acting kind piece (replicate piece.length 0) qp domain
 
 -- the regions after each piece was read
 abbrev pub lent_read : Lent → Access → ℕ → ℕ → List Piece → Lent
 lent_read lent kind qp domain [] = lent
-lent_read lent kind qp domain (piece ∷ pieces) = lent_read (lent_after lent piece.key (reading_of kind qp domain piece)) kind qp domain pieces
+lent_read lent kind qp domain (piece ∷ pieces) = lent_read (lent_after lent piece.key (piece_reading kind qp domain piece)) kind qp domain pieces
 
 -- the bytes that are read, one piece after another
 abbrev pub gathered : Lent → Access → ℕ → ℕ → List Piece → List ℕ
 gathered lent kind qp domain [] = []
 gathered lent kind qp domain (piece ∷ pieces) =
-    lent_bytes lent piece.key (reading_of kind qp domain piece)
-    ++ gathered (lent_after lent piece.key (reading_of kind qp domain piece)) kind qp domain pieces
+    lent_bytes lent piece.key (piece_reading kind qp domain piece)
+    ++ gathered (lent_after lent piece.key (piece_reading kind qp domain piece)) kind qp domain pieces
 
 -- each piece may be read after those before it were
 abbrev pub MayReadAll : Lent → Access → ℕ → ℕ → List Piece → Type 0
 MayReadAll lent kind qp domain [] = Unit {0}
 MayReadAll lent kind qp domain (piece ∷ pieces) =
-    MayAct lent piece.key (reading_of kind qp domain piece) × MayReadAll (lent_after lent piece.key (reading_of kind qp domain piece)) kind qp domain pieces
+    MayAct lent piece.key (piece_reading kind qp domain piece) × MayReadAll (lent_after lent piece.key (piece_reading kind qp domain piece)) kind qp domain pieces

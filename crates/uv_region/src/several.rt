@@ -4,7 +4,7 @@ ghost use Rattle.std.specs.Prelude.{◌≡◌, ◌<◌, ◌≤◌, ◌+◌, ◌+
 ghost use Rattle.uv_num.specs.declared.limits.TheConstants.{WORK_PARTS};
 ghost use Rattle.uv_region.specs.Actions.{is_read};
 ghost use Rattle.uv_region.specs.Lent.{lent_after, lent_bytes, MayAct, StaysKnown};
-ghost use Rattle.uv_region.specs.Several.{all_have_bytes, gathered, lent_allows_all, lent_read, lent_written, pieces_length, reading_of, with_rooms_for, writes_of, writing_of, MayReadAll, MayWriteAll};
+ghost use Rattle.uv_region.specs.Several.{all_have_bytes, gathered, lent_allows_all, lent_read, lent_written, pieces_length, piece_reading, with_rooms_for, writes_of, piece_writing, MayReadAll, MayWriteAll};
 
 use crate::action::Access;
 use crate::bytes::{action_bytes, blank_bytes};
@@ -35,8 +35,8 @@ impl PieceWrite {
     /// Makes it.
     fn make(self, kind: Access, qp: u32, domain: u32, regions: &mut Regions)
         requires writes { is_read kind ≡ false }
-        requires may { MayAct regions.old self.piece.key (writing_of kind qp domain self) }
-        ensures { regions.new ≡ lent_after regions.old self.piece.key (writing_of kind qp domain self) }
+        requires may { MayAct regions.old self.piece.key (piece_writing kind qp domain self) }
+        ensures { regions.new ≡ lent_after regions.old self.piece.key (piece_writing kind qp domain self) }
     {
         let PieceWrite { piece, bytes } = self;
         regions.act(kind, piece, bytes, qp, domain, &mut []);
@@ -100,10 +100,10 @@ impl BlankRead {
     /// Reads the piece, and puts its bytes after those of a payload.
     fn read(self, regions: &mut Regions, kind: Access, qp: u32, domain: u32, payload: &mut Bytes)
         requires reads { is_read kind ≡ true }
-        requires ready { MayAct regions.old self.key (reading_of kind qp domain self) }
+        requires ready { MayAct regions.old self.key (piece_reading kind qp domain self) }
         requires spare { self.length ≤ payload.old.spare }
-        ensures lent { regions.new ≡ lent_after regions.old self.key (reading_of kind qp domain self) }
-        ensures payload { payload.new.bytes ≡ payload.old.bytes ++ lent_bytes regions.old self.key (reading_of kind qp domain self) }
+        ensures lent { regions.new ≡ lent_after regions.old self.key (piece_reading kind qp domain self) }
+        ensures payload { payload.new.bytes ≡ payload.old.bytes ++ lent_bytes regions.old self.key (piece_reading kind qp domain self) }
         ensures spare { payload.old.spare ≤ payload.new.spare + self.length }
     {
         let BlankRead { piece, held } = self;
