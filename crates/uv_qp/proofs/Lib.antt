@@ -1,3 +1,4 @@
+pub mod Filled
 pub mod Growing
 pub mod Keeping
 pub mod Lasting

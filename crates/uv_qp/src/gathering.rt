@@ -1,7 +1,8 @@
 //! Where the bytes of a message lie in the parts of a work.
 
-ghost use Rattle.std.specs.Prelude.{◌≡◌, ◌++◌, ◌∷◌, [], ◌≤◌, ◌<◌, ◌+◌, length};
+ghost use Rattle.std.specs.Prelude.{◌≡◌, ◌++◌, ◌∷◌, [], ◌≤◌, ◌<◌, ◌+◌, length, true};
 ghost use Rattle.uv_num.specs.declared.limits.TheConstants.{WORK_PARTS};
+ghost use Rattle.uv_region.specs.Several.{all_have_bytes, pieces_length};
 ghost use Rattle.uv_qp.specs.Pieces.{within_part, piece_of, pieces};
 
 use std::marker::Model;
@@ -86,10 +87,12 @@ fn put_piece(found: &mut PieceList, part: Sge, from: u32, count: u32)
 }
 
 /// The pieces of the parts that have so many bytes from a place on, in order (`copy_data`, `rxe_mr.c`, walks them). What is
-/// beyond the parts has no piece. It takes no memory.
+/// beyond the parts has no piece; each piece has bytes, and all together no more than so many. It takes no memory.
 pub fn pieces(parts: &[Sge], from: u32, count: u32) -> PieceList
     requires { length parts.now ≤ WORK_PARTS }
-    ensures { result ≡ pieces parts.now from count }
+    ensures pieces { result ≡ pieces parts.now from count }
+    ensures full { all_have_bytes result ≡ true }
+    ensures most { pieces_length result ≤ count }
 {
     let mut found = PieceList::new();
     let mut at = from;
