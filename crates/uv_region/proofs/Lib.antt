@@ -5,3 +5,4 @@ pub mod Journaling
 pub mod Maps
 pub mod Reaching
 pub mod Roomy
+pub mod Going

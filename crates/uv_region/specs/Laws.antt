@@ -10,8 +10,9 @@ use Rattle.uv_region.specs.Registered.{Registered, terms_of}
 use Rattle.uv_region.specs.Replay.{standing, effect, replay_of}
 use Rattle.uv_region.specs.Journals.{PlainJournal, journal_of, IsJournal, IsKept, GoesOn}
 use Rattle.uv_region.specs.Acting.{after_action}
-use Rattle.uv_region.specs.Lent.{Lent, acting, lent_allows, lent_after, lent_with_room, MayAct, StaysKnown}
-use Rattle.uv_region.specs.Several.{lent_allows_all, with_rooms_for, writes_of, MayReadAll, MayWriteAll}
+use Rattle.uv_region.specs.Lent.{Lent, acting, lent_allows, lent_after, lent_with_room, lent_with_rooms, MayAct, StaysKnown}
+use Rattle.uv_region.specs.Several.{lent_allows_all, lent_read, lent_written, with_rooms_for, writes_of, MayReadAll, MayWriteAll, PlainWrite}
+use Rattle.uv_region.specs.GoingOn.{LentGoesOn}
 
 -- An action that is allowed lies inside the region, in unbounded numbers, has its right and the region's domain, and
 -- passes its window; and one of which all this is true is allowed.
@@ -125,3 +126,17 @@ AllowedMayReadAll =
     (lent : Lent) (kind : Access) (pieces : List Piece) (qp domain : ℕ)
     → lent_allows_all lent kind domain pieces ≡ true
     → MayReadAll (with_rooms_for lent pieces) kind qp domain pieces
+
+-- Lent regions go on from themselves, and from each that they go on from in turn; so do they by room, by what a queue pair
+-- reads and writes there, and where nothing that counts has changed.
+
+pub record LentKeepsGoing (qp domain : ℕ) : Type 0 where
+  pub itself : (lent : Lent) → LentGoesOn qp domain lent lent
+  pub in_turn : (old now new : Lent) → LentGoesOn qp domain old now → LentGoesOn qp domain now new → LentGoesOn qp domain old new
+  pub known : (old new : Lent) → StaysKnown old new → LentGoesOn qp domain old new
+  pub rooms : (lent : Lent) (pieces : List Piece) (more : ℕ) → LentGoesOn qp domain lent (lent_with_rooms lent pieces more)
+  pub reads : (lent : Lent) (kind : Access) (pieces : List Piece) → LentGoesOn qp domain lent (lent_read lent kind qp domain pieces)
+  pub writes : (lent : Lent) (kind : Access) (writes : List PlainWrite) → LentGoesOn qp domain lent (lent_written lent kind qp domain writes)
+
+abbrev pub LentRegionsGoOn : Type 0
+LentRegionsGoOn = (qp domain : ℕ) → LentKeepsGoing qp domain

@@ -7,4 +7,5 @@ pub mod Acting
 pub mod Codes
 pub mod Lent
 pub mod Several
+pub mod GoingOn
 pub mod Laws

@@ -1,6 +1,6 @@
 //! Laws of regions and journals.
 
-ghost use Rattle.uv_region.specs.Laws.{AllowedMayReadAll, AllowedMayWriteAll, AllowedPassesAll, RefusedInOrder, TestsLookAtNoBytes, OutsideStays, WrittenStands, ActedIsKept, ReplayKeepsLength, GoesOnFromItself, GoesOnInTurn, ActedGoesOn, RoomIsNotKnown, RoomChangesNoTest, ActionChangesNoTest, AllowedMayAct};
+ghost use Rattle.uv_region.specs.Laws.{AllowedMayReadAll, AllowedMayWriteAll, AllowedPassesAll, RefusedInOrder, TestsLookAtNoBytes, OutsideStays, WrittenStands, ActedIsKept, ReplayKeepsLength, GoesOnFromItself, GoesOnInTurn, ActedGoesOn, RoomIsNotKnown, RoomChangesNoTest, ActionChangesNoTest, AllowedMayAct, LentRegionsGoOn};
 
 /// An action is allowed exactly where it lies inside the region, has its right and the region's domain, and passes its
 /// window.
@@ -81,4 +81,9 @@ pub fn allowed_may_write_all()
 /// What is allowed on several pieces may be read one after another, once there is room for all.
 pub fn allowed_may_read_all()
     ensures { AllowedMayReadAll }
+{}
+
+/// Lent regions go on by all that a queue pair does to them.
+pub fn lent_regions_go_on()
+    ensures { LentRegionsGoOn }
 {}
