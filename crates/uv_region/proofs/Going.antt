@@ -16,7 +16,7 @@ use Rattle.uv_region.specs.Journals.{journal_of}
 use Rattle.uv_region.specs.Lent.{Lent, ReachedRegion, StaysKnown, known_reached, lent_after, lent_with_room, lent_with_rooms, via, with_acted, with_room}
 use Rattle.uv_region.specs.Registered.{KnownRegion}
 use Rattle.uv_region.specs.Replay.{standing}
-use Rattle.uv_region.specs.Several.{PlainWrite, lent_read, lent_written, reading_of, writing_of}
+use Rattle.uv_region.specs.Several.{PlainWrite, lent_read, lent_written, piece_reading, piece_writing}
 use Rattle.uv_region.proofs.Journaling.{acted_on, goes_on_refl, goes_on_trans}
 use Rattle.uv_region.proofs.Lending.{tied_same}
 
@@ -119,16 +119,16 @@ acted_on_lent qp domain lent key a by for = acted_at qp domain lent key a (map.g
 pub read_on_lent : (qp domain : ℕ) (lent : Lent) (kind : Access) (pieces : List Piece) → LentGoesOn qp domain lent (lent_read lent kind qp domain pieces)
 read_on_lent qp domain lent kind [] = lent_itself qp domain lent
 read_on_lent qp domain lent kind (p ∷ ps) =
-    lent_in_turn qp domain lent (lent_after lent p.key (reading_of kind qp domain p)) (lent_read (lent_after lent p.key (reading_of kind qp domain p)) kind qp domain ps)
-    (acted_on_lent qp domain lent p.key (reading_of kind qp domain p) refl refl)
-    (read_on_lent qp domain (lent_after lent p.key (reading_of kind qp domain p)) kind ps)
+    lent_in_turn qp domain lent (lent_after lent p.key (piece_reading kind qp domain p)) (lent_read (lent_after lent p.key (piece_reading kind qp domain p)) kind qp domain ps)
+    (acted_on_lent qp domain lent p.key (piece_reading kind qp domain p) refl refl)
+    (read_on_lent qp domain (lent_after lent p.key (piece_reading kind qp domain p)) kind ps)
 
 pub written_on_lent : (qp domain : ℕ) (lent : Lent) (kind : Access) (ws : List PlainWrite) → LentGoesOn qp domain lent (lent_written lent kind qp domain ws)
 written_on_lent qp domain lent kind [] = lent_itself qp domain lent
 written_on_lent qp domain lent kind (w ∷ ws) =
-    lent_in_turn qp domain lent (lent_after lent w.piece.key (writing_of kind qp domain w)) (lent_written (lent_after lent w.piece.key (writing_of kind qp domain w)) kind qp domain ws)
-    (acted_on_lent qp domain lent w.piece.key (writing_of kind qp domain w) refl refl)
-    (written_on_lent qp domain (lent_after lent w.piece.key (writing_of kind qp domain w)) kind ws)
+    lent_in_turn qp domain lent (lent_after lent w.piece.key (piece_writing kind qp domain w)) (lent_written (lent_after lent w.piece.key (piece_writing kind qp domain w)) kind qp domain ws)
+    (acted_on_lent qp domain lent w.piece.key (piece_writing kind qp domain w) refl refl)
+    (written_on_lent qp domain (lent_after lent w.piece.key (piece_writing kind qp domain w)) kind ws)
 
 -- where nothing that counts has changed
 
