@@ -39,6 +39,3 @@ pub use readers::Readers;
 pub use state::State;
 pub use steps::next_step;
 pub use told::Told;
-
-#[cfg(test)]
-mod rows;

@@ -1,5 +1,7 @@
 //! Histories written out by hand, and the first bad place of each.
 
+mod husks;
+
 use super::*;
 use std::test::Fail;
 use uv_num::{Errno, NONE};
