@@ -49,6 +49,7 @@ pub mod Reaching
 pub mod ReleasedKept
 pub mod Releases
 pub mod Rounds
+pub mod RuleLaws
 pub mod Silence
 pub mod Spent
 pub mod Standing

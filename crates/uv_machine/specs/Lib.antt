@@ -20,6 +20,7 @@ pub mod Plans
 pub mod Reached
 pub mod Removals
 pub mod Requests
+pub mod RuleNames
 pub mod States
 pub mod Steps
 pub mod Words

@@ -70,7 +70,7 @@ pub(crate) fn act_answer<V: Readers>(
     }
 }
 
-fn service_of_found(x: Option<Object>) -> u64
+pub(crate) fn service_of_found(x: Option<Object>) -> u64
     ensures { result ≡ service_of_found x }
 {
     match x {
@@ -94,13 +94,13 @@ fn modify_refusal(x: Option<Object>, from: QpState, to: u64, attrs: QpAttrs) -> 
     refused_move(modify(service_of_found(x), from, to, &attrs))
 }
 
-fn has_same_domain(window: Object, region: Object) -> bool
+pub(crate) fn has_same_domain(window: Object, region: Object) -> bool
     ensures { result ≡ has_same_domain window region }
 {
     window.domain() == region.domain()
 }
 
-fn has_right(right: u64, access: u64) -> bool
+pub(crate) fn has_right(right: u64, access: u64) -> bool
     ensures { result ≡ has_right right access }
 {
     access & right == right
@@ -115,7 +115,7 @@ fn lets_bind(region: Object, access: u64) -> bool
 }
 
 /// Whether a range is within so many bytes. Its end may lie beyond 64 bits.
-fn is_within(offset: u64, length: u64, whole: u64) -> bool
+pub(crate) fn is_within(offset: u64, length: u64, whole: u64) -> bool
     ensures { result ≡ nat_le (offset + length) whole }
 {
     length <= whole && offset <= whole - length
@@ -158,7 +158,7 @@ fn bind_refusal(
     }
 }
 
-fn gives_nothing(offset: u64, length: u64, access: u64) -> bool
+pub(crate) fn gives_nothing(offset: u64, length: u64, access: u64) -> bool
     ensures { result ≡ gives_nothing offset length access }
 {
     offset == 0 && length == 0 && access == 0
@@ -177,7 +177,7 @@ fn event_refusal(waits: bool, phase: FilePhase) -> Option<Errno>
     }
 }
 
-fn found_or(found: Option<QpState>) -> QpState
+pub(crate) fn found_or(found: Option<QpState>) -> QpState
     ensures { result ≡ found_or found }
 {
     match found {

@@ -13,6 +13,7 @@ mod numbers;
 mod objects;
 mod reached;
 mod removals;
+mod rules;
 mod teardowns;
 mod words;
 
@@ -45,6 +46,7 @@ pub use reached::{
 pub use removals::{
     kills_count, releases_count, sweep_takes_one, sweep_waits, teardown_counts, torn_stays_quiet,
 };
+pub use rules::{act_has_rule, enter_has_rule, entry_has_rule, open_has_rule, step_has_rule};
 pub use teardowns::{
     files_stand_apart, finds_free, open_is_open, phases_stand_apart, sweep_begins, sweep_ends,
     sweep_goes_on, sweep_kills, sweep_leaves, sweep_releases, sweep_shows,

@@ -20,6 +20,8 @@ mod outside;
 mod pool;
 mod readers;
 mod reads;
+mod rule;
+mod rules;
 mod state;
 mod steps;
 mod told;
@@ -36,6 +38,8 @@ pub use outside::{
 };
 pub use pool::{Cell, Pool};
 pub use readers::Readers;
+pub use rule::{RULES, Rule};
+pub use rules::{enter_rule, next_rule, open_rule, rule_of};
 pub use state::State;
 pub use steps::next_step;
 pub use told::Told;

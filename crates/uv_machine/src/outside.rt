@@ -177,7 +177,7 @@ pub fn may_close<V: Readers>(view: &V, file: u32) -> bool
     view.phase_of(file).is_closing() && view.is_quiet(file) && !view.has_standing(file)
 }
 
-fn needs_device(role: Role) -> bool
+pub(crate) fn needs_device(role: Role) -> bool
     ensures { result ≡ needs_device role }
 {
     match role {
