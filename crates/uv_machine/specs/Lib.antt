@@ -13,6 +13,7 @@ pub mod Lives
 pub mod Logged
 pub mod Made
 pub mod Marking
+pub mod Moves
 pub mod ObjectLaws
 pub mod Objects
 pub mod Outside

@@ -15,6 +15,7 @@ mod judging;
 pub mod laws;
 mod log;
 mod marks;
+mod moves;
 mod object;
 mod outside;
 mod pool;
@@ -32,6 +33,7 @@ pub use entry::{Answer, CallStep, Entry, Word};
 pub use file::{File, FilePhase};
 pub use judging::first_bad;
 pub use log::Log;
+pub use moves::{Generations, Links, Move, Slot, Spot, entry_move};
 pub use object::{Binding, Change, Object, Phase};
 pub use outside::{
     enter_refusal, may_close, may_dissociate, may_go, may_kill, may_tear, open_refusal,
