@@ -2,8 +2,9 @@
 //!
 //! Standard input is a list of cases: a line `=== NAME STATUS WORD..`, the script, and a line `===` (`=== cut` where the
 //! script's last line has no line feed). Other lines between two cases are remarks. A case is run as the program runs it,
-//! by its words, over a source and a sink in memory. For each case the program writes its name, its status and all that
-//! was written to the sink. It ends with status 1 where a case ended with another status than its line wants.
+//! by its words, over a source and a sink in memory. For each case the program writes its name, its status, all that was
+//! written to the sink, and a line where the judge doesn't find the history of the run legal. It ends with status 1 where
+//! there is such a history, and where a case ended with another status than its line wants.
 #![tactic(auto)]
 
 mod case;
@@ -15,6 +16,7 @@ use std::str;
 use std::sync::Wait;
 use std::thread::Threads;
 use uv_io::{CleanSink, CleanSource, OpenGate, ReadAll, StdSource, read_all};
+use uv_model::{Verdict, judge};
 use uv_num::Bytes;
 use uv_run::start;
 
@@ -28,10 +30,12 @@ const REPORT_ROOM: usize = 1_048_576;
 #[derive(Drop)]
 struct Ended {
     status: u8,
+    /// What the judge says of the history that the run left.
+    verdict: Verdict,
     sink: CleanSink,
 }
 
-/// Runs a script by these words.
+/// Runs a script by these words, and has its history judged.
 fn run_case<R: Threads + Wait + Sync>(
     rt: &R,
     alloc: Global,
@@ -43,11 +47,22 @@ fn run_case<R: Threads + Wait + Sync>(
     let done = start(rt, alloc, Some(words), &mut source, &mut sink, &OpenGate);
     Ok(Ended {
         status: done.status,
+        verdict: judge(alloc, &done.told.history),
         sink,
     })
 }
 
-/// Runs a case and tells what it ended with. Whether it ended as it wants.
+/// Tells that a history isn't legal, or wasn't judged. Whether it is legal, of which nothing is told.
+fn tell_verdict<R: Print>(rt: &R, verdict: Verdict) -> anyhow::Result<bool> {
+    match verdict {
+        Verdict::Legal => return Ok(true),
+        Verdict::Bad { place } => println!(rt; "not legal at entry {place}")?,
+        Verdict::NoMemory => println!(rt; "no memory to judge")?,
+    }
+    Ok(false)
+}
+
+/// Runs a case and tells what it ended with. Whether it ended as it wants, with a legal history.
 fn tell_case<R: Print + Threads + Wait + Sync>(
     rt: &R,
     alloc: Global,
@@ -64,11 +79,12 @@ fn tell_case<R: Print + Threads + Wait + Sync>(
     let status = ended.status;
     println!(rt; "=== {name} {status}")?;
     print!(rt; "{}", str::from_utf8(ended.sink.bytes())?)?;
+    let is_legal = tell_verdict(rt, ended.verdict)?;
     println!(rt; "===")?;
-    Ok(status == wanted)
+    Ok(is_legal && status == wanted)
 }
 
-/// Runs the cases of a list. How many ended with another status than they want.
+/// Runs the cases of a list. How many ended otherwise than they want.
 fn tell_cases<R: Print + Threads + Wait + Sync>(
     rt: &R,
     alloc: Global,
@@ -102,7 +118,7 @@ fn main(rt: HostRuntime) -> anyhow::Result<()> {
     let odd = tell_cases(&rt, rt.alloc(), str::from_utf8(list.as_slice())?)?;
     ensure!(
         odd == 0,
-        "{odd} cases ended with another status than they want"
+        "{odd} cases ended with another status than they want, or with a history that isn't legal"
     );
     Ok(())
 }
