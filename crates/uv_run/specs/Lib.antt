@@ -16,4 +16,4 @@ pub mod Stand
 pub mod Steps
 pub mod Texts
 pub mod Turns
-pub mod Words
+pub mod Wanted

@@ -1,16 +1,14 @@
 -- What each status of a run says of the source, of the sink and of the record.
 use Rattle.std.specs.Prelude.{ℕ, ◌≡◌, ◌≤◌, ◌+◌, ◌⊎◌, List, [], Option, Some, Ok, Err, length}
 use Rattle.std.specs.Io.KnownBytes.{Appends}
-use Rattle.uv_num.specs.declared.limits.TheConstants.{SCRIPT_BYTES}
 use Rattle.uv_io.specs.Faults.{Rose}
 use Rattle.uv_io.specs.Whole.{ReadsWhole, ReadsPrefix, ReadsCount, WritesPrefix}
 use Rattle.uv_script.specs.declared.form.Line.{Line}
 use Rattle.uv_script.specs.Script.{script_of}
-use Rattle.uv_script.specs.declared.form.Mode.TheVariants.{Steps}
 use Rattle.uv_report.specs.declared.record.Record.{Record}
-use Rattle.uv_report.specs.Report.{report_of}
 use Rattle.uv_run.specs.Texts.{fault_line, too_long_line}
-use Rattle.uv_run.specs.Follows.{FollowsScript}
+use Rattle.uv_run.specs.Wanted.{mode_of, most_bytes, FollowsAs, text_for}
+use Rattle.uv_run.specs.declared.words.Wanted.{Wanted}
 
 -- a record that tells nothing
 abbrev pub empty_record : Record
@@ -30,56 +28,56 @@ abbrev pub WritesUnlessFault : Option (List ℕ) → Option (List ℕ) → ℕ �
 WritesUnlessFault old new before now text = Appends old new text ⊎ IsCutShort old new before now text
 
 -- these bytes are a script, and the record follows it
-pub record RunsBytes (bytes : List ℕ) (told : Record) : Type 0 where
+pub record RunsBytes (wanted : Wanted) (bytes : List ℕ) (told : Record) : Type 0 where
   pub lines : List Line
-  pub script : script_of Steps bytes ≡ Ok lines
-  pub follows : FollowsScript lines told
+  pub script : script_of (mode_of wanted) bytes ≡ Ok lines
+  pub follows : FollowsAs wanted lines told
 
 -- all that was left was read, it is a script, and the record follows it
-pub record RunsScript (old new : Option (List ℕ)) (told : Record) : Type 0 where
+pub record RunsScript (wanted : Wanted) (old new : Option (List ℕ)) (told : Record) : Type 0 where
   pub bytes : List ℕ
-  pub whole : ReadsWhole old new bytes SCRIPT_BYTES
-  pub runs : RunsBytes bytes told
+  pub whole : ReadsWhole old new bytes (most_bytes wanted)
+  pub runs : RunsBytes wanted bytes told
 
 -- the first line of bytes that is outside the language, if there is one, is told
-pub record TellsFault (bytes : List ℕ) (old new : Option (List ℕ)) (before now : ℕ) : Type 0 where
+pub record TellsFault (wanted : Wanted) (bytes : List ℕ) (old new : Option (List ℕ)) (before now : ℕ) : Type 0 where
   pub line : ℕ
-  pub script : script_of Steps bytes ≡ Err line
+  pub script : script_of (mode_of wanted) bytes ≡ Err line
   pub text : WritesUnlessFault old new before now (fault_line line)
 
 -- all that was left was read, it is no script, and its first line that is outside the language is told
-pub record RefusesScript (old new written rewritten : Option (List ℕ)) (before now : ℕ) : Type 0 where
+pub record RefusesScript (wanted : Wanted) (old new written rewritten : Option (List ℕ)) (before now : ℕ) : Type 0 where
   pub bytes : List ℕ
-  pub whole : ReadsWhole old new bytes SCRIPT_BYTES
-  pub tells : TellsFault bytes written rewritten before now
+  pub whole : ReadsWhole old new bytes (most_bytes wanted)
+  pub tells : TellsFault wanted bytes written rewritten before now
 
 -- status 0: the script was run, and its report was written
-pub record Reports (old new written rewritten : Option (List ℕ)) (told : Record) : Type 0 where
-  pub runs : RunsScript old new told
-  pub report : Appends written rewritten (report_of told)
+pub record Reports (wanted : Wanted) (old new written rewritten : Option (List ℕ)) (told : Record) : Type 0 where
+  pub runs : RunsScript wanted old new told
+  pub report : Appends written rewritten (text_for wanted runs.runs.lines told)
 
 -- status 4: the script was run, and a fault of the sink cut its report short
-pub record ReportsCutShort (old new written rewritten : Option (List ℕ)) (before now : ℕ) (told : Record) : Type 0 where
-  pub runs : RunsScript old new told
-  pub report : IsCutShort written rewritten before now (report_of told)
+pub record ReportsCutShort (wanted : Wanted) (old new written rewritten : Option (List ℕ)) (before now : ℕ) (told : Record) : Type 0 where
+  pub runs : RunsScript wanted old new told
+  pub report : IsCutShort written rewritten before now (text_for wanted runs.runs.lines told)
 
 -- status 3: the source had a fault behind some bytes
-pub record FailsReading (old new : Option (List ℕ)) (before now : ℕ) : Type 0 where
+pub record FailsReading (wanted : Wanted) (old new : Option (List ℕ)) (before now : ℕ) : Type 0 where
   pub fault : Rose before now
-  pub read : ReadsPrefix old new SCRIPT_BYTES
+  pub read : ReadsPrefix old new (most_bytes wanted)
 
 -- status 6: a byte more than a script has was read, and it is told
-pub record RefusesLength (old new written rewritten : Option (List ℕ)) (before now : ℕ) : Type 0 where
-  pub read : ReadsCount old new (SCRIPT_BYTES + 1)
+pub record RefusesLength (wanted : Wanted) (old new written rewritten : Option (List ℕ)) (before now : ℕ) : Type 0 where
+  pub read : ReadsCount old new (most_bytes wanted + 1)
   pub text : WritesUnlessFault written rewritten before now too_long_line
 
 -- what is left is known to be a script that isn't too long
-pub record IsScriptLeft (left : Option (List ℕ)) : Type 0 where
+pub record IsScriptLeft (wanted : Wanted) (left : Option (List ℕ)) : Type 0 where
   pub bytes : List ℕ
   pub known : left ≡ Some bytes
-  pub bound : length bytes ≤ SCRIPT_BYTES
+  pub bound : length bytes ≤ most_bytes wanted
   pub lines : List Line
-  pub script : script_of Steps bytes ≡ Ok lines
+  pub script : script_of (mode_of wanted) bytes ≡ Ok lines
 
 -- the script was run, or memory ran out
 abbrev pub IsRunOrNoMemory : ℕ → Type 0

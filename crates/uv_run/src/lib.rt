@@ -31,4 +31,4 @@ pub use texts::{fault_text, too_long_text, usage_text};
 pub use top::{run, run_steps, start};
 pub use uv_model::Left;
 pub use uv_report::{Record, Said, Saying};
-pub use words::{are_steps, arguments};
+pub use words::{Wanted, arguments, words_wanted};

@@ -1,6 +1,6 @@
 //! The top call: a script is read from a source, run, and its report written to a sink.
 
-ghost use Rattle.std.specs.Prelude.{◌≡◌, ◌≢◌, ◌≤◌, ◌+◌, ◌⊎◌, length, IfOk, Ok};
+ghost use Rattle.std.specs.Prelude.{◌≡◌, ◌≢◌, ◌≤◌, ◌+◌, ◌⊎◌, length, IfOk, Ok, None};
 ghost use Rattle.std.specs.Io.KnownBytes.{Appends};
 ghost use Rattle.uv_num.specs.declared.limits.TheConstants.{SCRIPT_BYTES};
 ghost use Rattle.uv_io.specs.Faults.{Rose};
@@ -9,12 +9,13 @@ ghost use Rattle.uv_run.specs.Outcome.{IsEmptyRecord, IsCutShort, WritesUnlessFa
 ghost use Rattle.uv_report.specs.Report.{report_of};
 ghost use Rattle.uv_run.specs.Follows.{FollowsScript};
 ghost use Rattle.uv_run.specs.Texts.{fault_line, too_long_line, usage_line};
-ghost use Rattle.uv_run.specs.Words.{AreSteps, AreGivenSteps};
+ghost use Rattle.uv_run.specs.Wanted.{AsWanted, most_bytes, given_wanted, words_wanted};
+ghost use Rattle.uv_run.specs.declared.words.Wanted.TheVariants.{Steps};
 
 use crate::outcome::Done;
 use crate::play::play;
 use crate::texts::{fault_text, too_long_text, usage_text};
-use crate::words::are_steps;
+use crate::words::{Wanted, words_wanted};
 use std::alloc::{AllocError, Global};
 use std::sync::Wait;
 use std::thread::Threads;
@@ -99,10 +100,10 @@ fn tell_fault<K: Sink>(alloc: Global, line: u32, sink: &mut K) -> Done
 /// Runs the script of these bytes, if they are one.
 fn run_bytes<K: Sink>(alloc: Global, bytes: &[u8], sink: &mut K) -> Done
     ensures statuses { IsBytesStatus result.status }
-    ensures whole { result.status ≡ 0 → RunsBytes bytes.now result.told }
+    ensures whole { result.status ≡ 0 → RunsBytes Steps bytes.now result.told }
     ensures report { result.status ≡ 0 → Appends (K.written sink.old) (K.written sink.new) (report_of result.told) }
-    ensures fault { result.status ≡ 1 → TellsFault bytes.now (K.written sink.old) (K.written sink.new) (K.faults sink.old) (K.faults sink.new) }
-    ensures part { result.status ≡ 4 → RunsBytes bytes.now result.told }
+    ensures fault { result.status ≡ 1 → TellsFault Steps bytes.now (K.written sink.old) (K.written sink.new) (K.faults sink.old) (K.faults sink.new) }
+    ensures part { result.status ≡ 4 → RunsBytes Steps bytes.now result.told }
     ensures cut { result.status ≡ 4 → IsCutShort (K.written sink.old) (K.written sink.new) (K.faults sink.old) (K.faults sink.new) (report_of result.told) }
     ensures silent { result.status ≡ 5 → sink.new ≡ sink.old }
     ensures told { result.status ≢ 0 → result.status ≢ 4 → IsEmptyRecord result.told }
@@ -118,12 +119,12 @@ fn run_bytes<K: Sink>(alloc: Global, bytes: &[u8], sink: &mut K) -> Done
 /// Reads a script, runs it and writes its report. What this promises, the calls that stand on it promise too.
 fn read_and_run<S: Source, K: Sink>(alloc: Global, source: &mut S, sink: &mut K) -> Done
     ensures statuses { IsStepsStatus result.status }
-    ensures runs { result.status ≡ 0 → RunsScript (S.left source.old) (S.left source.new) result.told }
+    ensures runs { result.status ≡ 0 → RunsScript Steps (S.left source.old) (S.left source.new) result.told }
     ensures report { result.status ≡ 0 → Appends (K.written sink.old) (K.written sink.new) (report_of result.told) }
-    ensures fault { result.status ≡ 1 → RefusesScript (S.left source.old) (S.left source.new) (K.written sink.old) (K.written sink.new) (K.faults sink.old) (K.faults sink.new) }
+    ensures fault { result.status ≡ 1 → RefusesScript Steps (S.left source.old) (S.left source.new) (K.written sink.old) (K.written sink.new) (K.faults sink.old) (K.faults sink.new) }
     ensures read_fault { result.status ≡ 3 → Rose (S.faults source.old) (S.faults source.new) }
     ensures read_part { result.status ≡ 3 → ReadsPrefix (S.left source.old) (S.left source.new) SCRIPT_BYTES }
-    ensures runs_cut { result.status ≡ 4 → RunsScript (S.left source.old) (S.left source.new) result.told }
+    ensures runs_cut { result.status ≡ 4 → RunsScript Steps (S.left source.old) (S.left source.new) result.told }
     ensures report_cut { result.status ≡ 4 → IsCutShort (K.written sink.old) (K.written sink.new) (K.faults sink.old) (K.faults sink.new) (report_of result.told) }
     ensures memory { result.status ≡ 5 → ReadsPrefix (S.left source.old) (S.left source.new) (SCRIPT_BYTES + 1) }
     ensures long { result.status ≡ 6 → ReadsCount (S.left source.old) (S.left source.new) (SCRIPT_BYTES + 1) }
@@ -171,12 +172,12 @@ fn tell_usage<K: Sink>(alloc: Global, sink: &mut K) -> Done
 /// stays. Status 5 means out of memory; where the call of one line meets that, the line is answered `ENOMEM`.
 pub fn run_steps<S: Source, K: Sink>(alloc: Global, source: &mut S, sink: &mut K) -> Done
     ensures statuses { IsStepsStatus result.status }
-    ensures done { result.status ≡ 0 → Reports (S.left source.old) (S.left source.new) (K.written sink.old) (K.written sink.new) result.told }
-    ensures fault { result.status ≡ 1 → RefusesScript (S.left source.old) (S.left source.new) (K.written sink.old) (K.written sink.new) (K.faults sink.old) (K.faults sink.new) }
-    ensures reading { result.status ≡ 3 → FailsReading (S.left source.old) (S.left source.new) (S.faults source.old) (S.faults source.new) }
-    ensures writing { result.status ≡ 4 → ReportsCutShort (S.left source.old) (S.left source.new) (K.written sink.old) (K.written sink.new) (K.faults sink.old) (K.faults sink.new) result.told }
+    ensures done { result.status ≡ 0 → Reports Steps (S.left source.old) (S.left source.new) (K.written sink.old) (K.written sink.new) result.told }
+    ensures fault { result.status ≡ 1 → RefusesScript Steps (S.left source.old) (S.left source.new) (K.written sink.old) (K.written sink.new) (K.faults sink.old) (K.faults sink.new) }
+    ensures reading { result.status ≡ 3 → FailsReading Steps (S.left source.old) (S.left source.new) (S.faults source.old) (S.faults source.new) }
+    ensures writing { result.status ≡ 4 → ReportsCutShort Steps (S.left source.old) (S.left source.new) (K.written sink.old) (K.written sink.new) (K.faults sink.old) (K.faults sink.new) result.told }
     ensures memory { result.status ≡ 5 → ReadsPrefix (S.left source.old) (S.left source.new) (SCRIPT_BYTES + 1) }
-    ensures length { result.status ≡ 6 → RefusesLength (S.left source.old) (S.left source.new) (K.written sink.old) (K.written sink.new) (K.faults sink.old) (K.faults sink.new) }
+    ensures length { result.status ≡ 6 → RefusesLength Steps (S.left source.old) (S.left source.new) (K.written sink.old) (K.written sink.new) (K.faults sink.old) (K.faults sink.new) }
 
     // Nothing is written of a read that failed, or where memory ran out.
     ensures silent_reading { result.status ≡ 3 → sink.new ≡ sink.old }
@@ -186,14 +187,15 @@ pub fn run_steps<S: Source, K: Sink>(alloc: Global, source: &mut S, sink: &mut K
     ensures later_sink { K.faults sink.old ≤ K.faults sink.new }
 
     // A script that is left is run where neither fails, memory aside.
-    ensures complete { IsScriptLeft (S.left source.old) → ¬ Rose (S.faults source.old) (S.faults source.new) → ¬ Rose (K.faults sink.old) (K.faults sink.new) → IsRunOrNoMemory result.status }
+    ensures complete { IsScriptLeft Steps (S.left source.old) → ¬ Rose (S.faults source.old) (S.faults source.new) → ¬ Rose (K.faults sink.old) (K.faults sink.new) → IsRunOrNoMemory result.status }
 {
     read_and_run(alloc, source, sink)
 }
 
-/// Runs the program that the words ask for: `steps` reads a script, runs it on one thread and writes its report.
+/// Runs the program that the words ask for (`Wanted`): `steps` reads a script, runs it on one thread and writes its report.
 ///
-/// `words` are those after the program's name. Words that are no form are status 2, and then the source isn't read.
+/// `words` are those after the program's name. Words that are no form are status 2, and then the source isn't read. What the
+/// other statuses say, they say of what is wanted, and `run_steps` is the case of `steps`.
 /// Neither `rt` nor `gate` is used by the one form that there is.
 pub fn run<R: Threads + Wait + Sync, S: Source, K: Sink, G: Gate>(
     rt: &R,
@@ -204,18 +206,18 @@ pub fn run<R: Threads + Wait + Sync, S: Source, K: Sink, G: Gate>(
     gate: &G,
 ) -> Done
     ensures statuses { IsStepsStatus result.status ⊎ (result.status ≡ 2) }
-    ensures done { result.status ≡ 0 → Reports (S.left source.old) (S.left source.new) (K.written sink.old) (K.written sink.new) result.told }
-    ensures fault { result.status ≡ 1 → RefusesScript (S.left source.old) (S.left source.new) (K.written sink.old) (K.written sink.new) (K.faults sink.old) (K.faults sink.new) }
+    ensures done { result.status ≡ 0 → AsWanted (words_wanted words.now.items) (λ wanted. Reports wanted (S.left source.old) (S.left source.new) (K.written sink.old) (K.written sink.new) result.told) }
+    ensures fault { result.status ≡ 1 → AsWanted (words_wanted words.now.items) (λ wanted. RefusesScript wanted (S.left source.old) (S.left source.new) (K.written sink.old) (K.written sink.new) (K.faults sink.old) (K.faults sink.new)) }
 
     // The words are wrong exactly where the status is 2. Then nothing is read.
-    ensures words { AreSteps words.now.items → result.status ≢ 2 }
-    ensures usage { ¬ AreSteps words.now.items → result.status ≡ 2 }
+    ensures words { words_wanted words.now.items ≢ None → result.status ≢ 2 }
+    ensures usage { words_wanted words.now.items ≡ None → result.status ≡ 2 }
     ensures usage_unread { result.status ≡ 2 → source.new ≡ source.old }
     ensures usage_text { result.status ≡ 2 → WritesUnlessFault (K.written sink.old) (K.written sink.new) (K.faults sink.old) (K.faults sink.new) usage_line }
-    ensures reading { result.status ≡ 3 → FailsReading (S.left source.old) (S.left source.new) (S.faults source.old) (S.faults source.new) }
-    ensures writing { result.status ≡ 4 → ReportsCutShort (S.left source.old) (S.left source.new) (K.written sink.old) (K.written sink.new) (K.faults sink.old) (K.faults sink.new) result.told }
-    ensures memory { result.status ≡ 5 → ReadsPrefix (S.left source.old) (S.left source.new) (SCRIPT_BYTES + 1) }
-    ensures length { result.status ≡ 6 → RefusesLength (S.left source.old) (S.left source.new) (K.written sink.old) (K.written sink.new) (K.faults sink.old) (K.faults sink.new) }
+    ensures reading { result.status ≡ 3 → AsWanted (words_wanted words.now.items) (λ wanted. FailsReading wanted (S.left source.old) (S.left source.new) (S.faults source.old) (S.faults source.new)) }
+    ensures writing { result.status ≡ 4 → AsWanted (words_wanted words.now.items) (λ wanted. ReportsCutShort wanted (S.left source.old) (S.left source.new) (K.written sink.old) (K.written sink.new) (K.faults sink.old) (K.faults sink.new) result.told) }
+    ensures memory { result.status ≡ 5 → AsWanted (words_wanted words.now.items) (λ wanted. ReadsPrefix (S.left source.old) (S.left source.new) (most_bytes wanted + 1)) }
+    ensures length { result.status ≡ 6 → AsWanted (words_wanted words.now.items) (λ wanted. RefusesLength wanted (S.left source.old) (S.left source.new) (K.written sink.old) (K.written sink.new) (K.faults sink.old) (K.faults sink.new)) }
 
     // Nothing is written of a read that failed, or where memory ran out.
     ensures silent_reading { result.status ≡ 3 → sink.new ≡ sink.old }
@@ -225,15 +227,14 @@ pub fn run<R: Threads + Wait + Sync, S: Source, K: Sink, G: Gate>(
     ensures later_sink { K.faults sink.old ≤ K.faults sink.new }
 
     // A script that is left is run where neither fails, memory aside.
-    ensures complete { AreSteps words.now.items → IsScriptLeft (S.left source.old) → ¬ Rose (S.faults source.old) (S.faults source.new) → ¬ Rose (K.faults sink.old) (K.faults sink.new) → IsRunOrNoMemory result.status }
+    ensures complete { AsWanted (words_wanted words.now.items) (λ wanted. IsScriptLeft wanted (S.left source.old)) → ¬ Rose (S.faults source.old) (S.faults source.new) → ¬ Rose (K.faults sink.old) (K.faults sink.new) → IsRunOrNoMemory result.status }
 {
     // One thread needs neither: they are for the forms of words that start threads.
     let _ = rt;
     let _ = gate;
-    if are_steps(words) {
-        run_steps(alloc, source, sink)
-    } else {
-        tell_usage(alloc, sink)
+    match words_wanted(words) {
+        Some(Wanted::Steps) => run_steps(alloc, source, sink),
+        None => tell_usage(alloc, sink),
     }
 }
 
@@ -250,18 +251,18 @@ pub fn start<R: Threads + Wait + Sync, S: Source, K: Sink, G: Gate>(
     gate: &G,
 ) -> Done
     ensures statuses { IsStepsStatus result.status ⊎ (result.status ≡ 2) }
-    ensures done { result.status ≡ 0 → Reports (S.left source.old) (S.left source.new) (K.written sink.old) (K.written sink.new) result.told }
-    ensures fault { result.status ≡ 1 → RefusesScript (S.left source.old) (S.left source.new) (K.written sink.old) (K.written sink.new) (K.faults sink.old) (K.faults sink.new) }
+    ensures done { result.status ≡ 0 → AsWanted (given_wanted words) (λ wanted. Reports wanted (S.left source.old) (S.left source.new) (K.written sink.old) (K.written sink.new) result.told) }
+    ensures fault { result.status ≡ 1 → AsWanted (given_wanted words) (λ wanted. RefusesScript wanted (S.left source.old) (S.left source.new) (K.written sink.old) (K.written sink.new) (K.faults sink.old) (K.faults sink.new)) }
 
     // The words are wrong exactly where the status is 2. Then nothing is read.
-    ensures words { AreGivenSteps words → result.status ≢ 2 }
-    ensures usage { ¬ AreGivenSteps words → result.status ≡ 2 }
+    ensures words { given_wanted words ≢ None → result.status ≢ 2 }
+    ensures usage { given_wanted words ≡ None → result.status ≡ 2 }
     ensures usage_unread { result.status ≡ 2 → source.new ≡ source.old }
     ensures usage_text { result.status ≡ 2 → WritesUnlessFault (K.written sink.old) (K.written sink.new) (K.faults sink.old) (K.faults sink.new) usage_line }
-    ensures reading { result.status ≡ 3 → FailsReading (S.left source.old) (S.left source.new) (S.faults source.old) (S.faults source.new) }
-    ensures writing { result.status ≡ 4 → ReportsCutShort (S.left source.old) (S.left source.new) (K.written sink.old) (K.written sink.new) (K.faults sink.old) (K.faults sink.new) result.told }
-    ensures memory { result.status ≡ 5 → ReadsPrefix (S.left source.old) (S.left source.new) (SCRIPT_BYTES + 1) }
-    ensures length { result.status ≡ 6 → RefusesLength (S.left source.old) (S.left source.new) (K.written sink.old) (K.written sink.new) (K.faults sink.old) (K.faults sink.new) }
+    ensures reading { result.status ≡ 3 → AsWanted (given_wanted words) (λ wanted. FailsReading wanted (S.left source.old) (S.left source.new) (S.faults source.old) (S.faults source.new)) }
+    ensures writing { result.status ≡ 4 → AsWanted (given_wanted words) (λ wanted. ReportsCutShort wanted (S.left source.old) (S.left source.new) (K.written sink.old) (K.written sink.new) (K.faults sink.old) (K.faults sink.new) result.told) }
+    ensures memory { result.status ≡ 5 → AsWanted (given_wanted words) (λ wanted. ReadsPrefix (S.left source.old) (S.left source.new) (most_bytes wanted + 1)) }
+    ensures length { result.status ≡ 6 → AsWanted (given_wanted words) (λ wanted. RefusesLength wanted (S.left source.old) (S.left source.new) (K.written sink.old) (K.written sink.new) (K.faults sink.old) (K.faults sink.new)) }
 
     // Nothing is written of a read that failed, or where memory ran out.
     ensures silent_reading { result.status ≡ 3 → sink.new ≡ sink.old }
@@ -271,10 +272,10 @@ pub fn start<R: Threads + Wait + Sync, S: Source, K: Sink, G: Gate>(
     ensures later_sink { K.faults sink.old ≤ K.faults sink.new }
 
     // A script that is left is run where neither fails, memory aside.
-    ensures complete { AreGivenSteps words → IsScriptLeft (S.left source.old) → ¬ Rose (S.faults source.old) (S.faults source.new) → ¬ Rose (K.faults sink.old) (K.faults sink.new) → IsRunOrNoMemory result.status }
+    ensures complete { AsWanted (given_wanted words) (λ wanted. IsScriptLeft wanted (S.left source.old)) → ¬ Rose (S.faults source.old) (S.faults source.new) → ¬ Rose (K.faults sink.old) (K.faults sink.new) → IsRunOrNoMemory result.status }
 {
-    match words {
-        Some(words) => run(rt, alloc, &words, source, sink, gate),
-        None => tell_usage(alloc, sink),
-    }
+    let Some(words) = words else {
+        return tell_usage(alloc, sink);
+    };
+    run(rt, alloc, &words, source, sink, gate)
 }
