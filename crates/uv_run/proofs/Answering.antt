@@ -29,7 +29,7 @@ use Rattle.uv_run.specs.Lines.{BeginsTask, ClosesIf, ClosesOwn, PlaysAll, PlaysF
 use Rattle.uv_run.specs.Site.{Site, closes, is_busy, teardown_of, start_site}
 use Rattle.uv_run.specs.Stand.{Stand, after_turned, with_begun, with_said}
 use Rattle.uv_run.specs.Turns.{RunsOut, after_event, after_waiting, awaited, others_if}
-use Rattle.uv_run.proofs.Begging.{all_but, all_told, begins_seated, close_quiet, seat_rests, seated_begun, seated_loud, seated_quiet}
+use Rattle.uv_run.proofs.BeginSeats.{all_but, all_told, begins_seated, close_quiet, seat_rests, seated_begun, seated_loud, seated_quiet}
 use Rattle.uv_run.proofs.Seated.{SeatOf, Seated, SeatedAt, event_seated, out_seated, waiting_seated}
 use Rattle.uv_run.proofs.Sitting.{Sits, asked_other}
 use Rattle.uv_run.proofs.Sitting.Sits.{Rests, InCall, InTear}

@@ -1,4 +1,4 @@
-mod Begging
+mod BeginSeats
 mod Beginnings
 mod Answering
 mod CallSounds

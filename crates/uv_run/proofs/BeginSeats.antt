@@ -1,4 +1,4 @@
--- What is asked for as something begins, and what is so as an actor has nothing in flight.
+-- The seats of actors as something begins: what is asked for, and what is so as an actor has nothing in flight.
 use Rattle.std.proofs.Common.{◌≡◌, ℕ, ◌<◌, Bool, true, false, List, [], ◌∷◌, ◌++◌, Option, Some, None, length, slice_get, refl, ap, sym, ◌∙◌, subst, inl, inr, filter, append-nil, ⊎_elim}
 use Rattle.std.specs.Prelude.{◌≢◌, ◌==◌, get_or, is_none, not, option_map, option_to_list, unwrap_or, if◌then◌else◌}
 use Rattle.std.proofs.lemmas.Bool.{eq-eqb, ne_eqb}
