@@ -1,0 +1,5 @@
+pub mod Going
+pub mod Letting
+pub mod Onward
+pub mod Staying
+pub mod Succeeding

@@ -1,0 +1,5 @@
+pub mod Meanings
+pub mod Reaches
+pub mod Upshots
+pub mod Replies
+pub mod Laws
