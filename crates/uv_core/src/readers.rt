@@ -9,7 +9,7 @@ ghost use Rattle.uv_graph.specs.Owns.{AreOut, own_of};
 ghost use Rattle.uv_graph.specs.Seats.{TearsOnce};
 
 use crate::whole::Core;
-use uv_machine::{FilePhase, InFlight, Object, Readers};
+use uv_machine::{FilePhase, Generations, InFlight, Object, Readers};
 use uv_num::Kind;
 use uv_pool::Deed;
 
@@ -85,6 +85,12 @@ impl<D: Deed + Drop> Readers for Core<D> {
     }
 }
 
+impl<D: Deed + Drop> Generations for Core<D> {
+    fn generation_of(&self, kind: Kind, index: u32) -> u32 {
+        self.graph.generation_of(kind, index)
+    }
+}
+
 impl<D: Deed> Core<D> {
     /// How many calls on a file are in flight.
     pub fn calls_on(&self, file: u32) -> u32
@@ -112,6 +118,13 @@ impl<D: Deed> Core<D> {
         ensures { result.now ≡ (state_of self.now.history).objects }
     {
         self.graph.objects()
+    }
+
+    /// How many entries the stored history has.
+    pub fn entries(&self) -> usize
+        ensures { result ≡ length self.now.history }
+    {
+        self.graph.entries()
     }
 
     /// The stored history is legal. It does nothing.

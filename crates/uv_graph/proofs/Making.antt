@@ -155,7 +155,7 @@ makes_item m c o r numbered allowed =
     let plan = in_plan t.call Make t.word refl in
     let s = stands_in_plan t.call Make plan in
     let fine = fine_by m t.call (kept_in answer.Ok) (told m c t.call None Make).refusal t.answer in
-    let P : Role → Type 0 = λ v. ((make_told m t.call v).refusal ≡ None) × ((make_told m t.call v).object ≡ o) in
+    let P : Role → Type 0 = λ v. ((make_told m v).refusal ≡ None) × ((make_told m v).object ≡ o) in
     let both = subst P s.creates (fine, t.object) in
     let found = made_in m o (m.made == NONE) (home_cell m s.kind) both.0 both.1 in
     let gives : after m (Step c Make o None answer.Ok) ≡ with_new m c (object_made m t.call s.kind found.0) =

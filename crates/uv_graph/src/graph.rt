@@ -11,7 +11,7 @@ ghost use Rattle.uv_machine.specs.Files.{client_of_file};
 use crate::counts::count_on;
 use crate::out::Out;
 use std::marker::Model;
-use uv_machine::{FilePhase, InFlight, Log, Object, Readers};
+use uv_machine::{FilePhase, Generations, InFlight, Log, Object, Readers};
 use uv_num::{ACTOR_PLACES, Ids, Kind, List};
 use uv_pool::{Deed, Pool};
 
@@ -117,6 +117,12 @@ impl<D: Deed + Drop> Readers for Graph<D> {
     }
 }
 
+impl<D: Deed + Drop> Generations for Graph<D> {
+    fn generation_of(&self, kind: Kind, index: u32) -> u32 {
+        self.log.state().generation_of(kind, index)
+    }
+}
+
 impl<D: Deed + Drop> Graph<D> {
     /// How many calls on a file are in flight.
     pub fn calls_on(&self, file: u32) -> u32
@@ -155,6 +161,13 @@ impl<D: Deed + Drop> Graph<D> {
         ensures { TearsOnce (state_of self.now.history) }
     {
         let _ = &self.log;
+    }
+
+    /// How many entries the history has.
+    pub fn entries(&self) -> usize
+        ensures { result ≡ length self.now.history }
+    {
+        self.log.len()
     }
 
     /// The refused entries of a client that the history has room for.

@@ -146,7 +146,7 @@ module _ (m : State) (r : Reached m) (numbered : Numbered m) (c : ℕ) (w : Word
   makes_told t k =
       let said : w ≡ word.Make = sym t.word ∙ next_word-planned t.call word.Make k.plan.fine k.plan.planned in
       ap (told m c t.call found) said
-      ∙ ap (make_told m t.call) k.creates
+      ∙ ap (make_told m) k.creates
       ∙ ap (λ b. if b then refused_told NoSpc else cell_told m (home_cell m k.kind)) k.fresh
       ∙ ap (cell_told m) k.home
 

@@ -163,7 +163,7 @@ make_by : (m : State) (b : Bool) (cell : Option ℕ) → option_map errno_of (if
 make_by m true cell = refl
 make_by m false cell = cell_has m cell
 
-make_has : (m : State) (call : InFlight) (role : Role) → option_map errno_of (make_rule m role) ≡ (make_told m call role).refusal
+make_has : (m : State) (call : InFlight) (role : Role) → option_map errno_of (make_rule m role) ≡ (make_told m role).refusal
 make_has m call (Creates kind) = make_by m (m.made == NONE) (home_cell m kind)
 make_has m call (Destroys asked) = refl
 make_has m call (Acts act) = refl

@@ -62,14 +62,14 @@ lock_parts true true e = absurd (none-some _ (sym e))
 lock_parts true false e = refl
 lock_parts false others e = absurd (none-some _ (sym e))
 
-holds_locked : (o : ℕ) (k : InFlight) → k.locked ≡ Some o → holds o (Some k) ≡ true
+pub holds_locked : (o : ℕ) (k : InFlight) → k.locked ≡ Some o → holds o (Some k) ≡ true
 holds_locked o k e = or_left (is_the_number o k.locked) (looks_at o k) (locks_it o k.locked e)
 
-or_cases : (a b : Bool) → (a || b) ≡ true → (a ≡ true) ⊎ (b ≡ true)
+pub or_cases : (a b : Bool) → (a || b) ≡ true → (a ≡ true) ⊎ (b ≡ true)
 or_cases true b h = inl refl
 or_cases false b h = inr h
 
-number_is : (o : ℕ) (l : Option ℕ) → is_the_number o l ≡ true → l ≡ Some o
+pub number_is : (o : ℕ) (l : Option ℕ) → is_the_number o l ≡ true → l ≡ Some o
 number_is o None h = absurd cc
 number_is o (Some n) h = ap (λ (v : ℕ). Some v) (eqb-true n o h)
 

@@ -197,7 +197,7 @@ module _ (m : State) (c : ℕ) (call : InFlight) where
   makes_in kind false None f h e = absurd (none-some _ (sym e))
   makes_in kind false (Some index) f h e = (index, h, f)
 
-  makes_as : (role : Role) (a : Answer) → role_of call.request ≡ role → InPlan call Make → (make_told m call role).refusal ≡ None → refusal_in a ≡ None → (kind : Kind) → role ≡ Creates kind → Turn m c call a (unless_refused m c (refusal_in a) (make m c call role))
+  makes_as : (role : Role) (a : Answer) → role_of call.request ≡ role → InPlan call Make → (make_told m role).refusal ≡ None → refusal_in a ≡ None → (kind : Kind) → role ≡ Creates kind → Turn m c call a (unless_refused m c (refusal_in a) (make m c call role))
   makes_as (Creates k) a role plan fine is kind same =
       let found = makes_in k (m.made == NONE) (home_cell m k) refl refl fine in
       Makes (record {
@@ -212,7 +212,7 @@ module _ (m : State) (c : ℕ) (call : InFlight) where
   makes_as (Destroys asked) a role plan fine is kind same = absurd cc
   makes_as (Acts what) a role plan fine is kind same = absurd cc
 
-  makes_by : (r : Option Errno) (o : ℕ) (a : Answer) → InPlan call Make → (make_told m call (role_of call.request)).refusal ≡ r → refusal_in a ≡ r → Turn m c call a (stepped m c call Make o a)
+  makes_by : (r : Option Errno) (o : ℕ) (a : Answer) → InPlan call Make → (make_told m (role_of call.request)).refusal ≡ r → refusal_in a ≡ r → Turn m c call a (stepped m c call Make o a)
   makes_by None o a plan fine is = let s = stands_in_plan call Make plan in makes_as (role_of call.request) a refl plan fine is s.kind s.creates
   makes_by (Some e) o a plan fine is = refuses Make e None a _ plan refl fine is
 

@@ -62,10 +62,10 @@ cell_told m (Some index) = record { object = m.made; refusal = None }
 abbrev pub make_of : State → Kind → Told
 make_of m kind = if m.made == NONE then refused_told NoSpc else cell_told m (home_cell m kind)
 
-abbrev pub make_told : State → InFlight → Role → Told
-make_told m call (Creates kind) = make_of m kind
-make_told m call (Destroys asked) = plain_told
-make_told m call (Acts act) = plain_told
+abbrev pub make_told : State → Role → Told
+make_told m (Creates kind) = make_of m kind
+make_told m (Destroys asked) = plain_told
+make_told m (Acts act) = plain_told
 
 -- Act: by what the request does
 abbrev pub act_told : State → InFlight → Option QpState → Role → Told
@@ -108,7 +108,7 @@ free_told call = record { object = acted_on call; refusal = None }
 abbrev pub told : State → ℕ → InFlight → Option QpState → Word → Told
 told m c call found Reserve = reserve_told m call.file
 told m c call found Look = look_told m call.file (look_ask call)
-told m c call found Make = make_told m call (role_of call.request)
+told m c call found Make = make_told m (role_of call.request)
 told m c call found Commit = own_told call
 told m c call found Act = act_told m call found (role_of call.request)
 told m c call found Lock = lock_told m c call.file (role_of call.request)

@@ -1,6 +1,6 @@
 //! The machine's state with its stored history. Each entry is made here, and the state beside the history is its replay.
 
-ghost use Rattle.std.specs.Prelude.{◌≡◌, ◌≤◌, ◌+◌, ◌++◌, [], ◌∷◌, IfOk, OnOk, OnErr};
+ghost use Rattle.std.specs.Prelude.{◌≡◌, ◌≤◌, ◌+◌, ◌++◌, [], ◌∷◌, length, IfOk, OnOk, OnErr};
 ghost use Rattle.uv_machine.specs.Histories.{Allowed, IsLegal, state_of};
 ghost use Rattle.uv_machine.specs.Accounts.{costs};
 
@@ -66,6 +66,13 @@ impl Log {
         ensures { result.now ≡ state_of self.now.history }
     {
         &self.state
+    }
+
+    /// How many entries the history has.
+    pub fn len(&self) -> usize
+        ensures { result ≡ length self.now.history }
+    {
+        self.history.len()
     }
 
     /// The history, which is legal.

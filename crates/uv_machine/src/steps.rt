@@ -77,7 +77,7 @@ fn told<V: Readers>(
     match word {
         Word::Reserve => reserve_told(view, call.file),
         Word::Look => look_told(view, call.file, call.look_ask()),
-        Word::Make => make_told(view, call, call.request.role()),
+        Word::Make => make_told(view, call.request.role()),
         Word::Act => act_told(view, call, found, call.request.role()),
         Word::Lock => lock_told(view, actor, call.file, call.request.role()),
         Word::Check => check_told(view, call.own_object()),
@@ -145,8 +145,8 @@ fn look_try<V: Readers>(view: &V, file: u32, id: u32) -> Option<Errno>
     }
 }
 
-fn make_told<V: Readers>(view: &V, _call: InFlight, role: Role) -> Told
-    ensures { result ≡ make_told (V.state view.now) _call role }
+fn make_told<V: Readers>(view: &V, role: Role) -> Told
+    ensures { result ≡ make_told (V.state view.now) role }
 {
     match role {
         Role::Creates(kind) => make_of(view, kind),
