@@ -3,3 +3,4 @@ pub mod Reaches
 pub mod Upshots
 pub mod Replies
 pub mod Laws
+pub mod Touching

@@ -18,7 +18,7 @@ use uv_region::{Access, Piece, PieceWrite, Regions, allowed_may_write_all, piece
 use uv_wr::{Completion, Status};
 
 /// Where bytes of the work at a place of the send queue lie in its parts: so many, from this one on.
-fn pieces_at(qp: &Qp, place: u32, from: u32, count: u32) -> PieceList
+pub(crate) fn pieces_at(qp: &Qp, place: u32, from: u32, count: u32) -> PieceList
     ensures pieces { result ≡ pieces (parts_at qp.now place) from count }
     ensures full { all_have_bytes result ≡ true }
     ensures most { pieces_length result ≤ count }

@@ -11,10 +11,12 @@ mod judging;
 mod laws;
 mod meaning;
 mod reaches;
+mod touching;
 mod turning;
 
 pub use judging::Upshot;
 pub use laws::{acknowledged_stays_so, replies_go_on};
 pub use meaning::Meaning;
 pub use reaches::WaitingRead;
+pub use touching::reply_touches;
 pub use turning::turn;

@@ -1,17 +1,21 @@
 -- Laws of queue pairs: what whoever keeps them can rely on.
-use Rattle.std.specs.Prelude.{◌≡◌, ◌≤◌, ◌++◌, ℕ, false, is_some, Option, Some, List, [], ◌∷◌, length}
+use Rattle.std.specs.Prelude.{◌≡◌, ◌≤◌, ◌<◌, ◌++◌, ℕ, false, is_some, Option, Some, List, [], ◌∷◌, length}
 use Rattle.uv_num.specs.declared.attrs.QpAttrs.{QpAttrs}
+use Rattle.uv_num.specs.declared.limits.TheConstants.{QP_NUMBERS}
 use Rattle.uv_num.specs.declared.qp.QpState.{QpState}
 use Rattle.uv_num.specs.declared.qp.QpState.TheVariants as state
 use Rattle.uv_wr.specs.declared.completion.Completion.{Completion}
 use Rattle.uv_wr.specs.declared.completion.Status.{Status}
+use Rattle.uv_wr.specs.declared.work.Sge.{Sge}
 use Rattle.uv_wr.specs.Works.{Sending, Receiving}
+use Rattle.uv_region.specs.Several.{pieces_length}
 use Rattle.uv_qp.specs.declared.state.Requester.{Requester}
 use Rattle.uv_qp.specs.declared.state.Responder.{Responder}
 use Rattle.uv_qp.specs.GoingOn.{PairGoesOn, TurnGoesOn}
 use Rattle.uv_qp.specs.Ledgers.{IsOrdered}
 use Rattle.uv_qp.specs.Moves.{pair_moved_to, reset}
-use Rattle.uv_qp.specs.Pairs.{Paired, HasPlacesInOrder, next_receive, next_send, receives_posted, sends_posted}
+use Rattle.uv_qp.specs.Pairs.{Paired, HasPlacesInOrder, IsPaired, mtu_of, next_receive, next_send, peer_of, receives_posted, sends_posted}
+use Rattle.uv_qp.specs.Pieces.{pieces}
 use Rattle.uv_qp.specs.Posts.{with_receive, with_send}
 use Rattle.uv_qp.specs.Writers.{broken, held_from_queue, held_from_shared, receive_completed, receive_completion, send_completed, send_completion, with_requester, with_responder}
 
@@ -81,3 +85,17 @@ pub record BeginsAnew (p : Paired) : Type 0 where
 
 abbrev pub ResetBeginsAnew : Type 0
 ResetBeginsAnew = (p : Paired) → BeginsAnew p
+
+-- What it was told is in its ranges, as packets need it.
+
+pub record IsToldInRange (p : Paired) : Type 0 where
+  pub mtu : mtu_of p ≤ 4096
+  pub peer : peer_of p < QP_NUMBERS
+
+abbrev pub ToldIsInRange : Type 0
+ToldIsInRange = (p : Paired) → IsPaired p → IsToldInRange p
+
+-- The pieces of so many bytes have no more.
+
+abbrev pub PiecesAreFew : Type 0
+PiecesAreFew = (parts : List Sge) (from count : ℕ) → pieces_length (pieces parts from count) ≤ count

@@ -10,5 +10,6 @@ pub mod PacketCounts
 pub mod Pairs
 pub mod Pieces
 pub mod Posts
+pub mod Services
 pub mod TurnWords
 pub mod Writers

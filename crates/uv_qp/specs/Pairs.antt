@@ -6,6 +6,7 @@ use Rattle.uv_num.specs.declared.limits.TheConstants.{CELLS, FIRST_QP_NUMBER, MO
 use Rattle.uv_num.specs.declared.qp.QpState.{QpState}
 use Rattle.uv_num.specs.declared.qp.QpState.TheVariants.{Reset, Init, Rtr, Rts, Err}
 use Rattle.uv_num.specs.declared.qp.Service.{Service}
+use Rattle.uv_num.specs.Each.{Each}
 use Rattle.uv_num.specs.Ranges.{attrs_in_range}
 use Rattle.uv_queue.specs.Order.{oldest}
 use Rattle.uv_queue.specs.Queued.{Queued}
@@ -20,6 +21,7 @@ use Rattle.uv_qp.specs.declared.state.Requester.{Requester}
 use Rattle.uv_qp.specs.declared.state.Responder.{Responder}
 use Rattle.uv_qp.specs.Ledgers.{all_succeeded, in_order, posted_of}
 use Rattle.uv_qp.specs.PacketCounts.{queue_packets}
+use Rattle.uv_qp.specs.Services.{IsServed}
 
 -- what it is, where it stands, and its lists: the works that wait, and how those ended that have
 pub record Paired : Type 0 where
@@ -190,7 +192,7 @@ pub record IsRequesting (r : Requester) (packets : ℕ) : Type 0 where
   pub retried : r.retried ≤ MOST_RETRIES
   pub unready : r.unready ≤ MOST_RETRIES
 
--- what is true of every queue pair: no work waits in a state that takes none, no message is in progress before RTR, a receive
+-- what is true of every queue pair: no work waits in a state that takes none, each send is one of its service, no message is in progress before RTR, a receive
 -- is held exactly where the message is a send, only a broken one has works that failed, and its completions name it
 pub record IsPaired (p : Paired) : Type 0 where
   pub cell : p.names.index < CELLS
@@ -200,6 +202,7 @@ pub record IsPaired (p : Paired) : Type 0 where
   pub holding : is_some p.held ≡ is_send p.responder.message
   pub unposted : (takes_sends p.state || length p.sends.works == 0) ≡ true
   pub unbegun : (has_begun p.state || not (is_some p.responder.message)) ≡ true
+  pub served : Each (IsServed p.service) p.sends.works
   pub shared : (not p.srq || length p.receives.works == 0) ≡ true
   pub sends_unbroken : (is_broken p.state || all_succeeded p.sent) ≡ true
   pub receives_unbroken : (is_broken p.state || all_succeeded p.received) ≡ true

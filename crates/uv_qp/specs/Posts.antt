@@ -1,33 +1,11 @@
 -- What comes of a post. The state and the service are looked at first, then the depth, and want of memory is met last.
 use Rattle.std.specs.Prelude.{◌≡◌, ◌<◌, ◌&&◌, Bool, false, true, not, length}
-use Rattle.uv_num.specs.declared.qp.Service.{Service}
-use Rattle.uv_num.specs.declared.qp.Service.TheVariants.{Rc}
-use Rattle.uv_num.specs.declared.qp.Service.TheVariants as service
 use Rattle.uv_queue.specs.Queued.{Queued, with_pushed}
-use Rattle.uv_wr.specs.declared.work.Op.{Op}
-use Rattle.uv_wr.specs.declared.work.Op.TheVariants.{Send, SendImm, Write, WriteImm, Read}
-use Rattle.uv_wr.specs.declared.work.Op.TheVariants as op
 use Rattle.uv_wr.specs.Works.{Sending, Receiving}
 use Rattle.uv_qp.specs.declared.qp.Posted.{Posted}
 use Rattle.uv_qp.specs.declared.qp.Posted.TheVariants.{Did, Inval, Full, NoMemory}
 use Rattle.uv_qp.specs.Pairs.{Paired, takes_receives, takes_sends}
-
--- whether an operation is one of a service
-abbrev pub fits_service : Service → Op → Bool
-fits_service Rc Send = true
-fits_service Rc (SendImm imm) = true
-fits_service Rc (Write at key) = true
-fits_service Rc (WriteImm at key imm) = true
-fits_service Rc (Read at key) = true
-fits_service Rc (op.Ud device qp qkey) = false
-fits_service Rc (op.UdImm device qp qkey imm) = false
-fits_service service.Ud Send = false
-fits_service service.Ud (SendImm imm) = false
-fits_service service.Ud (Write at key) = false
-fits_service service.Ud (WriteImm at key imm) = false
-fits_service service.Ud (Read at key) = false
-fits_service service.Ud (op.Ud device qp qkey) = true
-fits_service service.Ud (op.UdImm device qp qkey imm) = true
+use Rattle.uv_qp.specs.Services.{fits_service}
 
 -- whether it takes this send
 abbrev pub may_send : Paired → Sending → Bool

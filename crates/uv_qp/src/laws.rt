@@ -1,6 +1,6 @@
 //! Laws of queue pairs.
 
-ghost use Rattle.uv_qp.specs.Laws.{ListsAreOrdered, WorksWerePosted, PairGoesOnFromItself, PairGoesOnInTurn, MovesGoOn, PostsGoOn, TurnsGoOn, TurnsGoOnInTurn, ResetBeginsAnew};
+ghost use Rattle.uv_qp.specs.Laws.{ListsAreOrdered, WorksWerePosted, PairGoesOnFromItself, PairGoesOnInTurn, MovesGoOn, PostsGoOn, TurnsGoOn, TurnsGoOnInTurn, ResetBeginsAnew, ToldIsInRange, PiecesAreFew};
 
 /// What a queue pair tells of its works is in order at each moment.
 pub fn lists_are_ordered()
@@ -45,4 +45,14 @@ pub fn turns_go_on_in_turn()
 /// After a move to RESET nothing was posted.
 pub fn reset_begins_anew()
     ensures { ResetBeginsAnew }
+{}
+
+/// The path MTU and the peer's number are in their ranges.
+pub fn told_is_in_range()
+    ensures { ToldIsInRange }
+{}
+
+/// The pieces of so many bytes have no more.
+pub fn pieces_are_few()
+    ensures { PiecesAreFew }
 {}

@@ -22,8 +22,9 @@ pub use counting::{WORK_PACKETS, packets_in, packets_of};
 pub use gate::{DEFAULT_PKEY, is_response};
 pub use gathering::{PieceList, pieces};
 pub use laws::{
-    goes_on_from_itself, goes_on_in_turn, lists_are_ordered, moves_go_on, posts_go_on,
-    reset_begins_anew, turns_go_on, turns_go_on_in_turn, works_were_posted,
+    goes_on_from_itself, goes_on_in_turn, lists_are_ordered, moves_go_on, pieces_are_few,
+    posts_go_on, reset_begins_anew, told_is_in_range, turns_go_on, turns_go_on_in_turn,
+    works_were_posted,
 };
 pub use ledger::{Ledger, QueueList, Which};
 pub use qp::{Posted, Qp};

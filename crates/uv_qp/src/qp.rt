@@ -19,7 +19,9 @@ ghost use Rattle.uv_qp.specs.Ledgers.{IsOrdered};
 ghost use Rattle.uv_qp.specs.Makings.{pair_made_by, pair_named, unused};
 ghost use Rattle.uv_qp.specs.Moves.{has_row, move_answer, pair_moved_by, pair_moved_to, reset, verdict_of};
 ghost use Rattle.uv_qp.specs.Pairs.{access_of, has_begun, is_broken, is_send, mtu_of, next_receive, next_send, qpn_of, packets_waiting, peer_of, peer_device_of, qkey_of, receives_posted, retries_of, rnr_retries_of, rnr_timer_of, sends_posted, takes_receives, takes_sends, HasPlacesInOrder, IsPaired, IsRequesting, IsResponding};
-ghost use Rattle.uv_qp.specs.Posts.{fits_service, may_receive, may_send, PostsReceive, PostsSend};
+ghost use Rattle.uv_wr.specs.Works.{IsAddressed};
+ghost use Rattle.uv_qp.specs.Services.{fits_service};
+ghost use Rattle.uv_qp.specs.Posts.{may_receive, may_send, PostsReceive, PostsSend};
 ghost use Rattle.uv_qp.specs.Writers.{broken, held_from_queue, held_from_shared, receive_completed, receive_completion, send_completed, send_completion, with_requester, with_responder};
 
 use crate::counting::packets_of;
@@ -309,9 +311,11 @@ impl Qp {
 impl Qp {
     /// Whether it takes this send.
     fn may_send(&self, work: &SendWork) -> bool
-        ensures { result ≡ may_send self.now work.now }
+        ensures may { result ≡ may_send self.now work.now }
+        ensures addressed { IsAddressed work.now.op }
     {
-        takes_sends(self.state) && fits_service(self.service, work.op())
+        let op = work.op();
+        takes_sends(self.state) && fits_service(self.service, op)
     }
 
     /// Whether it takes receives.

@@ -4,5 +4,6 @@ pub mod Lending
 pub mod Journaling
 pub mod Maps
 pub mod Reaching
+pub mod Ruling
 pub mod Roomy
 pub mod Going

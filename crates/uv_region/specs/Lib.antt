@@ -6,6 +6,7 @@ pub mod Journals
 pub mod Acting
 pub mod Codes
 pub mod Lent
+pub mod Rules
 pub mod Several
 pub mod GoingOn
 pub mod Laws

@@ -1,5 +1,6 @@
 //! Laws of regions and journals.
 
+ghost use Rattle.uv_region.specs.Rules.{AccessHasRule};
 ghost use Rattle.uv_region.specs.Laws.{AllowedMayReadAll, AllowedMayWriteAll, AllowedPassesAll, RefusedInOrder, TestsLookAtNoBytes, OutsideStays, WrittenStands, ActedIsKept, ReplayKeepsLength, GoesOnFromItself, GoesOnInTurn, ActedGoesOn, RoomIsNotKnown, RoomChangesNoTest, ActionChangesNoTest, AllowedMayAct, LentRegionsGoOn};
 
 /// An action is allowed exactly where it lies inside the region, has its right and the region's domain, and passes its
@@ -81,6 +82,11 @@ pub fn allowed_may_write_all()
 /// What is allowed on several pieces may be read one after another, once there is room for all.
 pub fn allowed_may_read_all()
     ensures { AllowedMayReadAll }
+{}
+
+/// There is a rule that an access by a key doesn't meet exactly where it isn't allowed.
+pub fn access_has_rule()
+    ensures { AccessHasRule }
 {}
 
 /// Lent regions go on by all that a queue pair does to them.

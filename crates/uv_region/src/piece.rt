@@ -2,9 +2,11 @@
 
 ghost use Rattle.std.specs.Prelude.{◌≡◌, ◌<◌, ◌^◌, Some};
 ghost use Rattle.uv_region.specs.Actions.{plain};
-ghost use Rattle.uv_region.specs.Lent.{reached_allows, acting, via};
+ghost use Rattle.uv_region.specs.Lent.{reached_allows, acting, demanded, via};
+ghost use Rattle.uv_region.specs.Refusals.{refusal_by};
+ghost use Rattle.uv_region.specs.Registered.{terms_of};
 
-use crate::action::{Access, Action, Demand, Window};
+use crate::action::{Access, Action, Demand, Why, Window};
 use crate::region::Region;
 use uv_num::Bytes;
 
@@ -20,8 +22,31 @@ pub struct Piece {
     pub length: u32,
 }
 
-/// Whether a region that is reached through a window lets an action on a piece pass. A piece that begins beyond the
-/// region is refused before its offset is cut to the 64 bits of an action.
+/// The first test that an action on a piece fails, where its region is reached through a window. A piece that begins beyond
+/// the region is refused before its offset is cut to the 64 bits of an action.
+pub(crate) fn refusal(
+    region: &Region,
+    window: Option<Window>,
+    kind: Access,
+    piece: Piece,
+    domain: u32,
+) -> Option<Why>
+    ensures { result ≡ refusal_by (terms_of region.now) (demanded kind piece domain window) }
+{
+    if piece.offset > u128::from(region.length()) {
+        return Some(Why::Bounds);
+    }
+    let demand = Demand {
+        kind,
+        offset: piece.offset as u64,
+        length: piece.length,
+        domain,
+        window,
+    };
+    region.refusal(demand)
+}
+
+/// Whether a region that is reached through a window lets an action on a piece pass.
 pub(crate) fn allows(
     region: &Region,
     window: Option<Window>,
@@ -31,17 +56,7 @@ pub(crate) fn allows(
 ) -> bool
     ensures { result ≡ reached_allows (Some (region.now, window)) kind piece domain }
 {
-    if piece.offset > u128::from(region.length()) {
-        return false;
-    }
-    let demand = Demand {
-        kind,
-        offset: piece.offset as u64,
-        length: piece.length,
-        domain,
-        window,
-    };
-    region.refusal(demand).is_none()
+    refusal(region, window, kind, piece, domain).is_none()
 }
 
 /// The action on a piece that lies in a region.

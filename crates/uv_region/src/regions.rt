@@ -6,13 +6,15 @@ ghost use Rattle.std.specs.Ordering.{nat_cmp};
 ghost use Rattle.uv_num.specs.declared.limits.TheConstants.{LENT_REGIONS};
 ghost use Rattle.uv_region.specs.Actions.{is_read};
 ghost use Rattle.uv_region.specs.Refusals.{IsAllowed};
+ghost use Rattle.uv_region.specs.Rules.{access_rule, reached_rule};
 ghost use Rattle.uv_region.specs.Registered.{terms_of};
 ghost use Rattle.uv_region.specs.Acting.{length_read, read_by, after_action, spent};
 ghost use Rattle.uv_region.specs.Lent.{entries_of, has_key, reached_at, reached_allows, lent_allows, lent_after, lent_with_room, lent_with_rooms, lent_bytes, StaysKnown, acting, via, MayAct};
 
 use crate::action::{Access, Window};
-use crate::piece::{Piece, action_on, allows};
+use crate::piece::{Piece, action_on, allows, refusal};
 use crate::region::Region;
+use crate::rule::{AccessRule, tested_rule};
 use std::alloc::{AllocError, Global};
 use std::marker::Model;
 use uv_num::{Bytes, LENT_REGIONS};
@@ -88,6 +90,16 @@ impl Regions {
         match place_of(&self.places, piece.key) {
             Some(at) => place_allows(&self.places[at], kind, piece, domain),
             None => false,
+        }
+    }
+
+    /// The rule that an action of this kind on a piece doesn't meet, if there is one; none exactly where `allows` lets it pass.
+    pub fn access_rule(&self, kind: Access, piece: Piece, domain: u32) -> Option<AccessRule>
+        ensures { result ≡ access_rule self.now kind piece domain }
+    {
+        match place_of(&self.places, piece.key) {
+            Some(at) => place_rule(&self.places[at], kind, piece, domain),
+            None => Some(AccessRule::Unknown),
         }
     }
 
@@ -250,6 +262,18 @@ fn place_allows(place: &Option<Keyed>, kind: Access, piece: Piece, domain: u32) 
     match place {
         Some(keyed) => allows(&keyed.region, keyed.window, kind, piece, domain),
         None => false,
+    }
+}
+
+fn place_rule(place: &Option<Keyed>, kind: Access, piece: Piece, domain: u32) -> Option<AccessRule>
+    ensures { result ≡ reached_rule (reached_at place.now) kind piece domain }
+{
+    match place {
+        Some(keyed) => match refusal(&keyed.region, keyed.window, kind, piece, domain) {
+            Some(why) => Some(tested_rule(why)),
+            None => None,
+        },
+        None => Some(AccessRule::Unknown),
     }
 }
 

@@ -1,7 +1,9 @@
 -- Laws of the packets of a work, and of turns and ticks.
 use Rattle.std.specs.Prelude.{ℕ, ◌≡◌, ◌≤◌, ◌<◌, false, Some, IfSome, List, length, slice_get}
 use Rattle.std.specs.List.{range_with_len, flat_map}
-use Rattle.uv_qp.specs.Pairs.{Paired}
+use Rattle.uv_num.specs.Each.{Each}
+use Rattle.uv_packet.specs.Packets.{IsPacketValue}
+use Rattle.uv_qp.specs.Pairs.{IsPaired, Paired}
 use Rattle.uv_region.specs.GoingOn.{LentGoesOn}
 use Rattle.uv_region.specs.Lent.{Lent}
 use Rattle.uv_wr.specs.Works.{Sending, whole_length}
@@ -38,3 +40,8 @@ pub record SendTurnGoesOn (p : Paired) (lent : Lent) : Type 0 where
 
 abbrev pub SendTurnsGoOn : Type 0
 SendTurnsGoOn = (p : Paired) (lent : Lent) → SendTurnGoesOn p lent
+
+-- The packets that a send turn makes can be written as bytes.
+
+abbrev pub TurnsMakePackets : Type 0
+TurnsMakePackets = (p : Paired) (lent : Lent) → IsPaired p → IfSome (send_turn_made p lent) (λ m. Each IsPacketValue m.packets)

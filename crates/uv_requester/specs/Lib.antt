@@ -6,3 +6,4 @@ pub mod Answers
 pub mod Turns
 pub mod Ticks
 pub mod Laws
+pub mod Touching

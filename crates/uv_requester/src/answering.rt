@@ -72,7 +72,7 @@ fn response_share(mtu: u64, reading: Reading) -> u32
 }
 
 /// Where the bytes of the next response lie. A read of no bytes looks at no region.
-fn response_pieces(mtu: u64, reading: Reading) -> PieceList
+pub(crate) fn response_pieces(mtu: u64, reading: Reading) -> PieceList
     requires most { mtu ≤ 4096 }
     requires reading { IsReading reading }
     ensures pieces { result ≡ response_pieces mtu reading }

@@ -1,8 +1,8 @@
 //! Laws of the packets of a work, and of turns and ticks.
 
-ghost use Rattle.uv_requester.specs.Laws.{NothingIsLost, SegmentStands, SendTurnsGoOn, TicksGoOn};
+ghost use Rattle.uv_requester.specs.Laws.{NothingIsLost, SegmentStands, SendTurnsGoOn, TicksGoOn, TurnsMakePackets};
 
-use uv_qp::{turns_go_on, turns_go_on_in_turn};
+use uv_qp::{pieces_are_few, told_is_in_range, turns_go_on, turns_go_on_in_turn};
 use uv_region::lent_regions_go_on;
 
 /// The packet that is made at a place is the one of the whole list.
@@ -31,4 +31,12 @@ pub fn ticks_go_on()
 {
     turns_go_on();
     turns_go_on_in_turn();
+}
+
+/// The packets that a send turn makes can be written as bytes.
+pub fn turns_make_packets()
+    ensures { TurnsMakePackets }
+{
+    pieces_are_few();
+    told_is_in_range();
 }

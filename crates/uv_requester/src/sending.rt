@@ -76,7 +76,7 @@ fn sent_on(requester: Requester, mtu: u64, work: &SendWork, at: u32) -> Requeste
     }
 }
 
-fn is_waiting(qp: &Qp) -> bool
+pub(crate) fn is_waiting(qp: &Qp) -> bool
     ensures { result ≡ is_waiting qp.now }
 {
     qp.requester().paused || has_read_before(qp.mtu(), qp.sends().as_slice(), qp.requester().next)
@@ -150,7 +150,7 @@ fn device_at(op: Op, peer: u32) -> u32
     }
 }
 
-fn is_too_long(work: &SendWork) -> bool
+pub(crate) fn is_too_long(work: &SendWork) -> bool
     ensures { result ≡ is_too_long work.now }
 {
     work.length() > DATAGRAM_BYTES

@@ -5,3 +5,4 @@ pub mod Letting
 pub mod Carried
 pub mod Lasting
 pub mod GoingOut
+pub mod Ruling

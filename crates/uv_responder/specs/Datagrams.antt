@@ -1,4 +1,4 @@
--- The rule of datagrams (`check_resource`, `check_length` and `execute` of `rxe_resp.c`; Q_Key: `check_keys` of `rxe_recv.c`).
+-- The rule of datagrams (`check_resource`, `rxe_resp_check_length` and `execute` of `rxe_resp.c`; Q_Key: `check_keys` of `rxe_recv.c`).
 use Rattle.std.specs.Prelude.{ℕ, ◌==◌, Bool, true, false, not, is_none, if◌then◌else◌, Option, None, Some, List, [], length}
 use Rattle.uv_packet.specs.declared.packet.Deth.{Deth}
 use Rattle.uv_packet.specs.Packets.{Content}

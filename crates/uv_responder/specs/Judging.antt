@@ -35,13 +35,13 @@ psn_distance from to = (to + PSNS - from) % PSNS
 abbrev pub came_before : ℕ → Bool
 came_before distance = nat_lt (PSNS / 2) distance
 
--- a packet that came before
+-- the range that it names
 
 -- the header of a write or a read, which each of their first packets has
 abbrev pub reth_of : Content → Reth
 reth_of c = unwrap_or c.reth (record { at = 0; key = 0; length = 0 })
 
--- the whole range that it names
+-- the whole range
 abbrev pub whole_range : Content → Piece
 whole_range c = record { key = (reth_of c).key; offset = (reth_of c).at; length = (reth_of c).length }
 
@@ -53,6 +53,7 @@ lets_act lent kind domain piece = (piece.length == 0) || lent_allows lent kind p
 abbrev pub can_reread : Content → Paired → Lent → Bool
 can_reread c p lent = nat_le (reth_of c).length WORK_BYTES && lets_act lent RemoteRead p.names.domain (whole_range c)
 
+-- a packet that came before
 abbrev pub judged_before : Part → Content → Paired → Lent → Judgement
 judged_before part c p lent =
     if not (asks_read part.asks) then judgement.Duplicate

@@ -5,3 +5,5 @@ pub mod Passing
 pub mod Plans
 pub mod Datagrams
 pub mod Turns
+pub mod Touching
+pub mod Rules

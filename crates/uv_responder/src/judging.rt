@@ -9,9 +9,10 @@ ghost use Rattle.uv_qp.specs.Pieces.{pieces};
 ghost use Rattle.uv_region.specs.declared.action.Access.TheVariants as Access;
 ghost use Rattle.uv_region.specs.Lent.{lent_allows};
 ghost use Rattle.uv_region.specs.Several.{lent_allows_all};
-ghost use Rattle.uv_responder.specs.Judging.{bytes_got, bytes_left, can_reread, fits_receive, has_length, is_granted, is_in_place, is_sized, is_whole, judged_before, judged_expected, judged_valid, judgement_of, lets_act, next_range, psn_distance, reaches, received_at, reth_of, takes_receive, tested_range, whole_range};
+ghost use Rattle.uv_responder.specs.Judging.{bytes_got, bytes_left, can_reread, fits_receive, has_length, is_granted, is_in_place, is_sized, is_whole, judgement_of, lets_act, next_range, psn_distance, reaches, received_at, reth_of, takes_receive, tested_range, whole_range};
 
 use crate::part::{Asks, Part};
+use crate::rule::packet_rule;
 use uv_num::{ACCESS_REMOTE_READ, ACCESS_REMOTE_WRITE, PSNS, WORK_BYTES};
 use uv_packet::{Packet, Reth};
 use uv_qp::{Message, Qp, Responder, pieces};
@@ -46,7 +47,7 @@ pub enum Judgement {
 }
 
 /// How far a PSN is ahead of another, around all PSNs (`psn_compare`, `rxe_hdr.h`, has the sign of it).
-fn psn_distance(from: u32, to: u32) -> u32
+pub(crate) fn psn_distance(from: u32, to: u32) -> u32
     requires from { from < PSNS }
     requires to { to < PSNS }
     ensures { result ≡ psn_distance from to }
@@ -81,27 +82,14 @@ fn lets_act(regions: &Regions, kind: Access, domain: u32, piece: Piece) -> bool
     piece.length == 0 || regions.allows(kind, piece, domain)
 }
 
-fn can_reread(packet: &Packet, qp: &Qp, regions: &Regions) -> bool
+pub(crate) fn can_reread(packet: &Packet, qp: &Qp, regions: &Regions) -> bool
     ensures { result ≡ can_reread (content_of packet.now) qp.now regions.now }
 {
     let range = whole_range(packet);
     range.length <= WORK_BYTES as u32 && lets_act(regions, Access::RemoteRead, qp.domain(), range)
 }
 
-fn judge_before(part: Part, packet: &Packet, qp: &Qp, regions: &Regions) -> Judgement
-    ensures { result ≡ judged_before part (content_of packet.now) qp.now regions.now }
-{
-    if part.asks != Asks::Reads {
-        return Judgement::Duplicate;
-    }
-    if can_reread(packet, qp, regions) {
-        Judgement::Reread
-    } else {
-        Judgement::Stale
-    }
-}
-
-fn is_in_place(part: Part, message: Option<Message>) -> bool
+pub(crate) fn is_in_place(part: Part, message: Option<Message>) -> bool
     ensures { result ≡ is_in_place part message }
 {
     match message {
@@ -111,7 +99,7 @@ fn is_in_place(part: Part, message: Option<Message>) -> bool
     }
 }
 
-fn is_sized(part: Part, mtu: u64, size: u64) -> bool
+pub(crate) fn is_sized(part: Part, mtu: u64, size: u64) -> bool
     ensures { result ≡ is_sized part mtu size }
 {
     if part.last {
@@ -147,7 +135,7 @@ fn is_whole(part: Part, named: u64, mtu: u64, left: u64, size: u64) -> bool
     }
 }
 
-fn has_length(part: Part, packet: &Packet, qp: &Qp) -> bool
+pub(crate) fn has_length(part: Part, packet: &Packet, qp: &Qp) -> bool
     ensures { result ≡ has_length part part.asks (content_of packet.now) qp.now }
 {
     match part.asks {
@@ -163,7 +151,7 @@ fn has_length(part: Part, packet: &Packet, qp: &Qp) -> bool
     }
 }
 
-fn is_granted(asks: Asks, access: u64) -> bool
+pub(crate) fn is_granted(asks: Asks, access: u64) -> bool
     ensures { result ≡ is_granted asks access }
 {
     match asks {
@@ -197,7 +185,7 @@ pub(crate) fn next_range(message: Option<Message>, size: u32) -> Piece
     }
 }
 
-fn tested_range(part: Part, packet: &Packet, responder: Responder) -> Piece
+pub(crate) fn tested_range(part: Part, packet: &Packet, responder: Responder) -> Piece
     requires { length packet.now.payload.bytes < 2 ^ 32 }
     ensures { result ≡ tested_range part (content_of packet.now) responder }
 {
@@ -208,7 +196,7 @@ fn tested_range(part: Part, packet: &Packet, responder: Responder) -> Piece
     }
 }
 
-fn reaches(part: Part, packet: &Packet, qp: &Qp, regions: &Regions) -> bool
+pub(crate) fn reaches(part: Part, packet: &Packet, qp: &Qp, regions: &Regions) -> bool
     requires { length packet.now.payload.bytes < 2 ^ 32 }
     ensures { result ≡ reaches part part.asks (content_of packet.now) qp.now regions.now }
 {
@@ -266,66 +254,8 @@ pub(crate) fn is_let(
     }
 }
 
-fn judge_valid(
-    part: Part,
-    packet: &Packet,
-    qp: &Qp,
-    regions: &Regions,
-    next: Option<&RecvWork>,
-) -> Judgement
-    requires { length packet.now.payload.bytes < 2 ^ 32 }
-    ensures { result ≡ judged_valid part (content_of packet.now) qp.now regions.now (option_copied next.entry) }
-{
-    if takes_receive(part) && next.is_none() {
-        return Judgement::NotReady;
-    }
-    if !reaches(part, packet, qp, regions) {
-        return Judgement::Denied;
-    }
-    let got = bytes_got(qp.responder().message);
-    let size = packet.payload.len() as u32;
-    if part.asks == Asks::Sends && !fits_receive(got, size, next) {
-        return Judgement::TooLong;
-    }
-    if part.asks == Asks::Sends && !is_let(regions, qp.domain(), got, size, next) {
-        return Judgement::Unplaced;
-    }
-    Judgement::Accepted
-}
-
-fn judge_expected(
-    part: Part,
-    packet: &Packet,
-    qp: &Qp,
-    regions: &Regions,
-    next: Option<&RecvWork>,
-) -> Judgement
-    requires { length packet.now.payload.bytes < 2 ^ 32 }
-    ensures { result ≡ judged_expected part (content_of packet.now) qp.now regions.now (option_copied next.entry) }
-{
-    let responder = qp.responder();
-    if responder.reading.is_some() {
-        return Judgement::Busy;
-    }
-    if part.asks == Asks::Invalidates {
-        return Judgement::Invalid;
-    }
-    if !is_in_place(part, responder.message) {
-        return Judgement::Invalid;
-    }
-    if !is_sized(part, qp.mtu(), packet.payload.len() as u64) {
-        return Judgement::Invalid;
-    }
-    if !has_length(part, packet, qp) {
-        return Judgement::Invalid;
-    }
-    if !is_granted(part.asks, qp.access()) {
-        return Judgement::Invalid;
-    }
-    judge_valid(part, packet, qp, regions, next)
-}
-
-/// The first row that applies. `next` is the receive that the packet's message has, or would take. It takes no memory.
+/// The first row that applies: that of the rule which isn't met first. `next` is the receive that the packet's message has, or would
+/// take. It takes no memory.
 pub fn judge(
     part: Part,
     packet: &Packet,
@@ -337,12 +267,8 @@ pub fn judge(
     requires payload { length packet.now.payload.bytes < 2 ^ 32 }
     ensures { result ≡ judgement_of part (content_of packet.now) qp.now regions.now (option_copied next.entry) }
 {
-    let distance = psn_distance(qp.responder().expected, packet.psn);
-    if distance > (PSNS / 2) as u32 {
-        return judge_before(part, packet, qp, regions);
+    match packet_rule(part, packet, qp, regions, next) {
+        None => Judgement::Accepted,
+        Some(rule) => rule.judgement(),
     }
-    if distance != 0 {
-        return Judgement::Ahead;
-    }
-    judge_expected(part, packet, qp, regions, next)
 }

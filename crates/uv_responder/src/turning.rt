@@ -288,7 +288,7 @@ fn ready_datagram(
 }
 
 /// What a request of a connection is a part of, by the number of its opcode.
-fn part_in(number: u8) -> Option<Part>
+pub(crate) fn part_in(number: u8) -> Option<Part>
     ensures { result ≡ part_in (opcode_of number) }
 {
     match Opcode::from_number(number) {
@@ -356,7 +356,7 @@ fn is_short(next: Option<&RecvWork>)
 }
 
 /// The receive that a message has, or would take of the shared queue.
-fn shared_receive<'a>(qp: &'a Qp, queue: &'a WorkQueue<RecvWork>) -> Option<&'a RecvWork>
+pub(crate) fn shared_receive<'a>(qp: &'a Qp, queue: &'a WorkQueue<RecvWork>) -> Option<&'a RecvWork>
     ensures { option_copied result ≡ receive_for qp.now (Some queue.now) }
 {
     match qp.held() {
