@@ -2,3 +2,4 @@ pub mod Fields
 pub mod Command
 pub mod Reading
 pub mod Refusal
+pub mod RuleNames

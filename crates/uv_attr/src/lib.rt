@@ -12,6 +12,9 @@ mod fault;
 mod fields;
 mod laws;
 mod refusing;
+mod rule;
+mod rule_laws;
+mod rules;
 #[cfg(test)]
 mod tests;
 
@@ -20,3 +23,6 @@ pub use decoding::decode_call;
 pub use encoding::{encode_call, repeats_id};
 pub use fault::CallFault;
 pub use laws::{accepted_bytes_are_a_command, command_has_one_reading, command_is_read_back};
+pub use rule::{BYTES_RULES, BytesRule};
+pub use rule_laws::bytes_have_rule;
+pub use rules::bytes_rule;

@@ -21,7 +21,8 @@ fn is_misstated(bytes: &[u8]) -> bool
     stated != HEADER_BYTES + ATTR_BYTES * count || stated != bytes.len()
 }
 
-fn has_reserved(bytes: &[u8]) -> bool
+/// Whether a reserved field of the header isn't 0.
+pub fn has_reserved(bytes: &[u8]) -> bool
     requires { HEADER_BYTES ≤ length bytes.now }
     ensures { result ≡ has_reserved bytes.now }
 {
@@ -65,7 +66,8 @@ fn stands_in(id: u16, count: usize, bytes: &[u8]) -> bool
     false
 }
 
-fn repeats_raw(count: usize, bytes: &[u8]) -> bool
+/// Whether an id stands twice among so many attributes.
+pub fn repeats_raw(count: usize, bytes: &[u8]) -> bool
     requires { ATTR_BYTES * count ≤ length bytes.now }
     ensures { result ≡ repeats (raw_ids (raws count bytes.now)) }
 {

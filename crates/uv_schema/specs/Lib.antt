@@ -5,3 +5,4 @@ pub mod Refusals
 pub mod Reading
 pub mod Calls
 pub mod Commands
+pub mod RuleNames

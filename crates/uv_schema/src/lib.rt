@@ -17,6 +17,9 @@ mod numbers;
 mod reading;
 mod refusing;
 mod rights;
+mod rule;
+mod rule_laws;
+mod rules;
 #[cfg(test)]
 mod tests;
 mod values;
@@ -26,3 +29,6 @@ pub use commands::command;
 pub use laws::request_is_read_back;
 pub use method::{Method, Wanted};
 pub use reading::request_of;
+pub use rule::{CALL_RULES, CallRule, CommandRule};
+pub use rule_laws::{call_has_rule, command_has_rule, request_has_rule};
+pub use rules::{call_rule, command_rule, request_rule};

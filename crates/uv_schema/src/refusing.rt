@@ -9,7 +9,8 @@ use crate::values::{is_given, value};
 use uv_attr::Attr;
 use uv_num::{Errno, MOST_HANDLE};
 
-fn has_wanted(wanted: &[Wanted], id: u16) -> bool
+/// Whether one of these attributes has the number.
+pub(crate) fn has_wanted(wanted: &[Wanted], id: u16) -> bool
     ensures { result ≡ has_wanted wanted.now id }
 {
     wanted.iter().any(|one| one.id() == id)

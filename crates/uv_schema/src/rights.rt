@@ -9,21 +9,21 @@ use uv_num::{
 };
 
 /// Whether an access has this right.
-fn has_right(right: u64, access: u64) -> bool
+pub fn has_right(right: u64, access: u64) -> bool
     ensures { result ≡ has_right right access }
 {
     access & right == right
 }
 
 /// Whether an access has no rights but these.
-fn has_only(rights: u64, access: u64) -> bool
+pub fn has_only(rights: u64, access: u64) -> bool
     ensures { result ≡ has_only rights access }
 {
     access & rights == access
 }
 
 /// Whether the other side may change the bytes.
-fn lets_others_write(access: u64) -> bool
+pub fn lets_others_write(access: u64) -> bool
     ensures { result ≡ lets_others_write access }
 {
     has_right(ACCESS_REMOTE_WRITE, access) || has_right(ACCESS_REMOTE_ATOMIC, access)

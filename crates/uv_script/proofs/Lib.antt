@@ -8,3 +8,5 @@ mod Namings
 mod Silence
 mod Taken
 mod Values
+pub mod AmissLaws
+pub mod AmissLoops

@@ -17,3 +17,6 @@ pub mod Reading
 pub mod Script
 pub mod Verbs
 pub mod Words
+pub mod Amiss
+pub mod WrongTexts
+pub mod AmissKept

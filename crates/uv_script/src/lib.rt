@@ -6,6 +6,8 @@
 //! Command bytes of a raw line are read by `uv_schema`'s `command`, and a line holds what they ask for.
 #![tactic(auto)]
 
+mod amiss;
+mod amiss_laws;
 mod built;
 mod bytes;
 mod context;
@@ -26,8 +28,13 @@ mod splits;
 mod tests;
 mod verbs;
 mod words;
+mod wrong;
+mod wrong_words;
 
+pub use amiss::first_amiss;
+pub use amiss_laws::{line_is_amiss, script_is_amiss};
 pub use form::{Deed, Form, Handle, Line, Mode, ScriptFault, Verb};
 pub use laws::{lines_join, names_stand_for_lines_above, the_dead_are_silent};
 pub use parsing::parse;
 pub use script::Script;
+pub use wrong::{Amiss, AmissLine, Operand, Wrong};

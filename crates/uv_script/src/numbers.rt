@@ -33,14 +33,14 @@ fn is_decimal(digits: &[u8]) -> bool
     starts_bare(digits) && are_digits(digits)
 }
 
-fn are_digits(bytes: &[u8]) -> bool
+pub(crate) fn are_digits(bytes: &[u8]) -> bool
     ensures { result ≡ list_all is_ascii_digit bytes.now }
 {
     bytes.iter().all(|byte| byte.is_ascii_digit())
 }
 
 /// Whether there is a first byte, which is `0` only where it is the only one.
-fn starts_bare(digits: &[u8]) -> bool
+pub(crate) fn starts_bare(digits: &[u8]) -> bool
     ensures { result ≡ has_bare_front digits.now }
 {
     match digits {

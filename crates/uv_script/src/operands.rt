@@ -70,7 +70,7 @@ fn service_operand(text: &[u8]) -> Option<(u64, &[u8])>
     Some((service, rest))
 }
 
-fn service(word: &[u8]) -> Option<u64>
+pub(crate) fn service(word: &[u8]) -> Option<u64>
     ensures { result ≡ service_word word.now }
 {
     if word == b"rc".as_slice() {

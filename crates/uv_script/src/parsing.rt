@@ -51,7 +51,7 @@ fn is_outside(read: &Read<'_>) -> bool
 }
 
 /// Puts what a line says with the other lines, and goes on to the next line.
-fn put_read<'a>(
+pub(crate) fn put_read<'a>(
     lines: &mut List<Line>,
     context: &mut Context<'a>,
     read: Read<'a>,

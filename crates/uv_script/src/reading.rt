@@ -58,7 +58,7 @@ fn read_text<'a>(
     read_words(alloc, context, text)
 }
 
-fn is_remark(text: &[u8]) -> bool
+pub(crate) fn is_remark(text: &[u8]) -> bool
     ensures { result ≡ is_remark text.now }
 {
     match text {
