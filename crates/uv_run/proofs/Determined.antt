@@ -36,6 +36,7 @@ use Rattle.uv_run.specs.Site.{Begins, EntersCall, OpensFile, Site, Turned, close
 use Rattle.uv_run.specs.Stand.{Stand, after_turned, event_said, reply_by, reply_text, said_if, saying_for, with_begun, with_said}
 use Rattle.uv_run.specs.Turns.{RunsOut, after_waiting, awaited, others_if}
 use Rattle.uv_run.proofs.ChainLaws.{Chain-once}
+use Rattle.uv_run.proofs.Continuing.{Continues}
 use Rattle.uv_run.proofs.Keeping.{kept_ends, kept_finish, kept_lines, kept_out, kept_waiting}
 use Rattle.uv_run.proofs.Once.{RunsOut-once}
 
@@ -48,8 +49,8 @@ pub record Grows (first : List Said) (s : Stand) : Type 0 where
 grows_by : (first : List Said) (s t : Stand) (more : List Said) → t.said ≡ s.said ++ more → Grows first s → Grows first t
 grows_by first s t more e g = record { more = g.more ++ more; is = e ∙ ap (λ v. v ++ more) g.is ∙ append_assoc first g.more more }
 
-grows_turned : (first : List Said) (m : Telling) (s : Stand) (a n : ℕ) (t : Turned) → Grows first s → Grows first (after_turned m s a n t)
-grows_turned first m s a n t g =
+grows_turned : (first : List Said) (m : Telling) (s : Stand) (a n : ℕ) (t : Turned) → Continues s.site t → Grows first s → Grows first (after_turned m s a n t)
+grows_turned first m s a n t continues g =
     grows_by first s (after_turned m s a n t) (event_said m n t.heard.event ++ said_if n (reply_text (reply_by m n a t.heard.ends))) (append_assoc s.said (event_said m n t.heard.event) _) g
 
 grows_said : (first : List Said) (s : Stand) (n : ℕ) (text : Saying) → Grows first s → Grows first (with_said s n text)

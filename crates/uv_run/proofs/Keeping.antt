@@ -1,4 +1,4 @@
--- What every event and every text keeps, lines keep.
+-- What every turn and every text keeps, lines keep. Of a turn it is known that the history grows at its end.
 use Rattle.std.proofs.Common.{◌≡◌, ℕ, zero, suc, ◌+◌, Bool, true, false, List, [], ◌∷◌, Option, Some, None, Ok, Err, sym, subst}
 use Rattle.std.specs.Prelude.{◌==◌, ◌||◌, Result, not, if◌then◌else◌}
 use Rattle.uv_num.specs.declared.errno.Errno.{Errno}
@@ -17,11 +17,12 @@ use Rattle.uv_run.specs.Lines.{BeginsTask, ClosesIf, ClosesOwn, PlaysForm, Plays
 use Rattle.uv_run.specs.Site.{Site, Turned, closes, event_of, is_busy}
 use Rattle.uv_run.specs.Stand.{Stand, after_turned, begun_by, with_begun, with_said}
 use Rattle.uv_run.specs.Turns.{RunsOut, after_event, after_waiting, awaited, is_on, one_turn, others_if, others_of, turns_of}
+use Rattle.uv_run.proofs.Continuing.{Continues, begins_continues, closes_continues, event_continues}
 
-module _ (P : Stand → Type 0) (turned : (m : Telling) (s : Stand) (a n : ℕ) (t : Turned) → P s → P (after_turned m s a n t)) (said : (s : Stand) (n : ℕ) (text : Saying) → P s → P (with_said s n text))
+module _ (P : Stand → Type 0) (turned : (m : Telling) (s : Stand) (a n : ℕ) (t : Turned) → Continues s.site t → P s → P (after_turned m s a n t)) (said : (s : Stand) (n : ℕ) (text : Saying) → P s → P (with_said s n text))
     (begun : (s : Stand) (a n : ℕ) → P s → P (with_begun s a n)) where
   kept_event : (m : Telling) (s : Stand) (a : ℕ) → P s → P (after_event m s a)
-  kept_event m s a all = turned m s a (begun_by s a) (event_of s.site a) all
+  kept_event m s a all = turned m s a (begun_by s a) (event_of s.site a) (event_continues s.site a) all
 
   kept_if : (v : Bool) (s t : Stand) → P s → P t → P (if v then s else t)
   kept_if true s t a b = a
@@ -39,13 +40,15 @@ module _ (P : Stand → Type 0) (turned : (m : Telling) (s : Stand) (a n : ℕ) 
   kept_waiting None a s all = all
   kept_waiting (Some f) a s all = kept_others _ s a f all
 
-  pub kept_after : (m : Telling) (s : Stand) (a n : ℕ) (t : Turned) → P s → P (after_waiting m s a n t)
-  kept_after m s a n t all = kept_waiting (awaited t.heard.event) a (after_turned m s a n t) (turned m s a n t all)
+  pub kept_after : (m : Telling) (s : Stand) (a n : ℕ) (t : Turned) → Continues s.site t → P s → P (after_waiting m s a n t)
+  kept_after m s a n t continues all = kept_waiting (awaited t.heard.event) a (after_turned m s a n t) (turned m s a n t continues all)
 
   kept_turns : (n : ℕ) (m : Telling) (s : Stand) (a : ℕ) → P s → P (turns_of n m s a)
   unfolding turns_of one_turn
   kept_turns zero m s a all = all
-  kept_turns (suc n) m s a all = kept_after m (turns_of n m s a) a (begun_by (turns_of n m s a) a) (event_of (turns_of n m s a).site a) (kept_turns n m s a all)
+  kept_turns (suc n) m s a all =
+      let t : Stand = turns_of n m s a in
+      kept_after m t a (begun_by t a) (event_of t.site a) (event_continues t.site a) (kept_turns n m s a all)
 
   pub kept_out : (m : Telling) (s : Stand) (a : ℕ) (s' : Stand) → RunsOut m s a s' → P s → P s'
   kept_out m s a s' runs all = subst P (sym runs.made) (kept_turns runs.count m s a all)
@@ -61,11 +64,12 @@ module _ (P : Stand → Type 0) (turned : (m : Telling) (s : Stand) (a n : ℕ) 
   pub kept_run : (s : Stand) (n a : ℕ) (r : Result Task Errno) (s' : Stand) → RunsTask s n a r s' → P s → P s'
   kept_run s n a (Ok task) s' runs all =
       let b = runs.begins in
-      kept_out telling.ToEnd runs.begun a s' runs.runs (subst P (sym b.stand) (kept_after telling.ToEnd (with_begun s a n) a n b.turned (begun s a n all)))
+      kept_out telling.ToEnd runs.begun a s' runs.runs (subst P (sym b.stand) (kept_after telling.ToEnd (with_begun s a n) a n b.turned (begins_continues s.site a task b.turned b.begins) (begun s a n all)))
   kept_run s n a (Err e) s' same all = subst P (sym same) (said s n _ all)
 
   kept_begin : (s : Stand) (n a : ℕ) (r : Result Task Errno) (s' : Stand) → BeginsTask s n a r s' → P s → P s'
-  kept_begin s n a (Ok task) s' begins all = subst P (sym begins.stand) (turned (telling.Plus n) (with_begun s a n) a n begins.turned (begun s a n all))
+  kept_begin s n a (Ok task) s' begins all =
+      subst P (sym begins.stand) (turned (telling.Plus n) (with_begun s a n) a n begins.turned (begins_continues s.site a task begins.turned begins.begins) (begun s a n all))
   kept_begin s n a (Err e) s' same all = subst P (sym same) (said s n _ all)
 
   kept_plus : (v : Bool) (s : Stand) (n a : ℕ) → P s → P (plus_line v s n a)
@@ -74,7 +78,7 @@ module _ (P : Stand → Type 0) (turned : (m : Telling) (s : Stand) (a n : ℕ) 
 
   kept_close : (v : Bool) (s : Stand) (n c f : ℕ) (s' : Stand) → ClosesIf v s n c f s' → P s → P s'
   kept_close true s n c f s' runs all =
-      kept_out telling.Dying (after_waiting telling.Dying (with_begun s c n) c n (closes s.site c f)) c s' runs (kept_after telling.Dying (with_begun s c n) c n (closes s.site c f) (begun s c n all))
+      kept_out telling.Dying (after_waiting telling.Dying (with_begun s c n) c n (closes s.site c f)) c s' runs (kept_after telling.Dying (with_begun s c n) c n (closes s.site c f) (closes_continues s.site c f) (begun s c n all))
   kept_close false s n c f s' same all = subst P (sym same) all
 
   kept_form : (s : Stand) (n : ℕ) (x : Form) (s' : Stand) (asked : List Asking) → PlaysForm s n x s' asked → P s → P s'
@@ -92,7 +96,7 @@ module _ (P : Stand → Type 0) (turned : (m : Telling) (s : Stand) (a n : ℕ) 
 
   kept_end : (v : Bool) (s : Stand) (f : ℕ) (s' : Stand) → ClosesEnd v s f s' → P s → P s'
   kept_end true s f s' runs all =
-      kept_out telling.Ending (after_waiting telling.Ending s ENDER 0 (closes s.site ENDER f)) ENDER s' runs (kept_after telling.Ending s ENDER 0 (closes s.site ENDER f) all)
+      kept_out telling.Ending (after_waiting telling.Ending s ENDER 0 (closes s.site ENDER f)) ENDER s' runs (kept_after telling.Ending s ENDER 0 (closes s.site ENDER f) (closes_continues s.site ENDER f) all)
   kept_end false s f s' same all = subst P (sym same) all
 
   pub kept_ends : (s : Stand) (files : List ℕ) (s' : Stand) → Chain EndsFile s files s' → P s → P s'

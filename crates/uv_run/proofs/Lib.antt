@@ -3,11 +3,14 @@ mod Beginnings
 mod Answering
 mod CallSounds
 mod ChainLaws
+mod Continuing
+mod Cutting
 mod Determined
 mod Ending
 mod Keeping
 mod Lowering
 mod MachineLaws
+mod Marking
 mod NextWords
 mod Once
 mod Outcomes

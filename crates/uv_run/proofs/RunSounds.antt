@@ -25,7 +25,6 @@ use Rattle.uv_run.specs.declared.reply.Telling.{Telling}
 use Rattle.uv_run.specs.declared.reply.Telling.TheVariants.{ToEnd}
 use Rattle.uv_run.specs.declared.world.World.{World}
 use Rattle.uv_run.specs.Asking.{Asking}
-use Rattle.uv_run.specs.Lines.{PlaysNext, PlaysOne, PlaysSome, Told}
 use Rattle.uv_run.specs.Progress.{HasRoomFor}
 use Rattle.uv_run.specs.Ranges.{IsInDeed, IsInReach}
 use Rattle.uv_run.specs.Runs.{GoesSound, StaysIdle, StaysSound}
@@ -34,7 +33,6 @@ use Rattle.uv_run.specs.Site.{Site, Turned, is_busy, teardown_of}
 use Rattle.uv_run.specs.Sound.{Began, HasSpares, IsSound, Moved, SparesOne, site_of}
 use Rattle.uv_run.specs.Stand.{Stand, after_turned, with_begun}
 use Rattle.uv_run.specs.Turns.{RunsOut, after_waiting, awaited, others_if}
-use Rattle.uv_run.proofs.ChainLaws.{Chain-take}
 
 -- Answers that hold where memory was there.
 
@@ -124,14 +122,6 @@ close_stays a old mid new m s ended = record {
 -- Lines.
 
 -- one more line is played
-pub plays_more : (s : Stand) (lines : List Line) (place : ℕ) (s1 : Stand) (l : Line) (s2 : Stand) → slice_get lines place ≡ Some l → PlaysSome s (take place lines) s1 → PlaysOne s1 l.number l.form s2 → PlaysSome s (take (place + 1) lines) s2
-plays_more s lines place s1 l s2 at some one = record {
-  asked = some.asked ++ one.asked;
-  plays =
-      Chain-take PlaysNext (record { stand = s; asked = [] }) lines place (record { stand = s1; asked = some.asked }) l (record { stand = s2; asked = some.asked ++ one.asked }) at some.plays
-      (record { more = one.asked; plays = one.plays; asks = refl });
-}
-
 pub no_ranges : All IsInRange []
 no_ranges k d low = absurd (omega (arith, low))
 

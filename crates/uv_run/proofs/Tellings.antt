@@ -20,6 +20,7 @@ use Rattle.uv_run.specs.Lines.{BeginsTask, ClosesIf, ClosesOwn, PlaysAll, PlaysF
 use Rattle.uv_num.specs.declared.limits.TheConstants.{ENDER}
 use Rattle.uv_run.specs.Site.{Site, Turned, closes, event_of, is_busy, state_at}
 use Rattle.uv_run.specs.Stand.{Stand, after_turned, begun_by, ended_reply, event_said, reply_by, reply_text, said_if, with_begun, with_said}
+use Rattle.uv_run.proofs.Continuing.{Continues}
 use Rattle.uv_run.proofs.Keeping.{kept_ends, kept_finish, kept_lines}
 
 -- Texts among texts.
@@ -69,8 +70,8 @@ reply_line telling.ToEnd n a e x is = ended_line n a e x is
 reply_line telling.Dying n a e x is = absurd (cc)
 reply_line telling.Ending n a e x is = absurd (cc)
 
-pub tells_turned : (m : Telling) (s : Stand) (a n : ℕ) (t : Turned) → Tells s → Tells (after_turned m s a n t)
-tells_turned m s a n t all =
+pub tells_turned : (m : Telling) (s : Stand) (a n : ℕ) (t : Turned) → Continues s.site t → Tells s → Tells (after_turned m s a n t)
+tells_turned m s a n t continues all =
     tells_reply n s.replies (s.said ++ event_said m n t.heard.event) (reply_by m n a t.heard.ends) (λ x is. reply_line m n a t.heard.ends x is)
     (among_more (map said_of s.replies) s.said (event_said m n t.heard.event) all)
 

@@ -5,6 +5,7 @@ pub mod Follows
 pub mod Handles
 pub mod Laws
 pub mod Lines
+pub mod Marks
 pub mod Outcome
 pub mod Plants
 pub mod Progress

@@ -110,7 +110,3 @@ PlaysAll s ls s' asked = Chain PlaysNext (record { stand = s; asked = [] }) ls (
 pub record PlaysOne (s : Stand) (n : ℕ) (form : Form) (s' : Stand) : Type 0 where
   pub asked : List Asking
   pub plays : PlaysForm s n form s' asked
-
-pub record PlaysSome (s : Stand) (lines : List Line) (s' : Stand) : Type 0 where
-  pub asked : List Asking
-  pub plays : PlaysAll s lines s' asked

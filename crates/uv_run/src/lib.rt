@@ -11,6 +11,7 @@ mod flight;
 mod heard;
 pub mod laws;
 mod lines;
+mod marked;
 mod outcome;
 mod play;
 mod replies;
@@ -26,6 +27,7 @@ mod top;
 mod words;
 mod world;
 
+pub use marked::{Marked, mark_steps};
 pub use outcome::Done;
 pub use texts::{fault_text, too_long_text, usage_text};
 pub use top::{run, run_steps, start};

@@ -1,6 +1,6 @@
 //! The lines of a script, played.
 
-ghost use Rattle.std.specs.Prelude.{◌≡◌, ◌≤◌, ◌<◌, ◌+◌, All, OnOk, true, false, slice_get, length, Result, Ok, Err};
+ghost use Rattle.std.specs.Prelude.{◌≡◌, ◌≤◌, ◌<◌, ◌+◌, All, IfOk, OnOk, true, false, slice_get, length, Result, Ok, Err};
 ghost use Rattle.uv_num.specs.declared.limits.TheConstants.{ENDER, FILES, SCRIPT_LINES};
 ghost use Rattle.uv_machine.specs.Histories.{IsActor, state_of};
 ghost use Rattle.uv_graph.specs.Conditions.{IsClient};
@@ -8,7 +8,8 @@ ghost use Rattle.uv_script.specs.Ranges.{IsInRange, HasRanges, MayDo};
 ghost use Rattle.uv_script.specs.declared.form.Form.TheVariants as form;
 ghost use Rattle.uv_run.specs.Asking.{task_of};
 ghost use Rattle.uv_run.specs.Chains.{Chain};
-ghost use Rattle.uv_run.specs.Lines.{BeginsLine, BeginsOnly, BeginsTask, ClosesIf, ClosesOwn, DiesLine, PlaysOne, PlaysSome, RunsLine, RunsTask, all_files, is_clients, plus_line};
+ghost use Rattle.uv_run.specs.Lines.{BeginsLine, BeginsOnly, BeginsTask, ClosesIf, ClosesOwn, DiesLine, PlaysOne, RunsLine, RunsTask, all_files, is_clients, plus_line};
+ghost use Rattle.uv_run.specs.Marks.{PlaysMarked};
 ghost use Rattle.uv_run.specs.Ranges.{IsInDeed, IsInReach};
 ghost use Rattle.uv_run.specs.Runs.{GoesSound, StaysSound, stand_of};
 ghost use Rattle.uv_run.specs.Site.{is_busy, state_at};
@@ -21,7 +22,7 @@ use crate::reply::Telling;
 use crate::running::Run;
 use crate::sayings::awaited;
 use std::alloc::{AllocError, Global};
-use uv_num::{Errno, FILES, Put, change_at};
+use uv_num::{Errno, FILES, List, Put, change_at};
 use uv_report::Saying;
 use uv_script::{Deed, Form, Line, Script};
 
@@ -253,19 +254,22 @@ impl Run {
         }
     }
 
-    /// Plays the lines of a script.
-    pub fn play_all(&mut self, alloc: Global, script: &Script) -> Result<(), AllocError>
+    /// Plays the lines of a script. What it gives are marks: how long the history was as each line began, and after the last one.
+    pub fn play_all(&mut self, alloc: Global, script: &Script) -> Result<List<usize>, AllocError>
         requires room { HasSpares SCRIPT_LINES self.old.world.core }
         requires ender { is_busy (site_of self.old.world) ENDER ≡ false }
         requires sound { IsSound self.old.world }
-        ensures plays { OnOk result (PlaysSome (stand_of self.old) script.now (stand_of self.new)) }
+        ensures plays { IfOk result (λ marks. PlaysMarked (stand_of self.old) script.now (stand_of self.new) marks) }
         ensures ranges { OnOk result (All IsInRange script.now) }
         ensures ender { OnOk result (is_busy (site_of self.new.world) ENDER ≡ false) }
         ensures sound { OnOk result (IsSound self.new.world) }
     {
+        let mut marks = List::new(alloc);
         for place in 0..script.len() {
+            marks.push(self.world.core.entries())?;
             self.play(alloc, script.line(place))?;
         }
-        Ok(())
+        marks.push(self.world.core.entries())?;
+        Ok(marks)
     }
 }

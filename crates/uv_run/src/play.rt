@@ -9,6 +9,7 @@ ghost use Rattle.uv_machine.specs.States.{is_callable, phase_of};
 ghost use Rattle.uv_run.specs.Follows.{ClosesEnd, EndsAll, EndsFile, FollowsScript, RunsOutAll, all_actors};
 ghost use Rattle.uv_run.specs.Ends.{AreIdle};
 ghost use Rattle.uv_run.specs.Lines.{all_files};
+ghost use Rattle.uv_run.specs.Marks.{FollowsMarked};
 ghost use Rattle.uv_run.specs.Runs.{StaysSound, stand_of};
 ghost use Rattle.uv_run.specs.Site.{is_busy};
 ghost use Rattle.uv_run.specs.Sound.{IsSound, is_ending, site_of};
@@ -109,14 +110,23 @@ impl Run {
     }
 }
 
-/// Plays the lines of a script from the beginning, and then closes what they left open.
-pub fn play(alloc: Global, script: &Script) -> Result<Record, AllocError>
-    ensures { IfOk result (λ r. FollowsScript script.now r) }
+/// Plays the lines of a script from the beginning, and then closes what they left open. Beside the record it gives the marks: how
+/// long the history was as each line began, and after the last one.
+pub fn play_marked(alloc: Global, script: &Script) -> Result<(Record, List<usize>), AllocError>
+    ensures { IfOk result (λ r. FollowsMarked script.now r.0 r.1) }
 {
     let mut run = Run::new(alloc)?;
-    run.play_all(alloc, script)?;
+    let marks = run.play_all(alloc, script)?;
     run.finish()?;
     let left = left_in(alloc, run.world.core.objects())?;
     run.end()?;
-    Ok(run.into_record(left))
+    Ok((run.into_record(left), marks))
+}
+
+/// The record alone.
+pub fn play(alloc: Global, script: &Script) -> Result<Record, AllocError>
+    ensures { IfOk result (λ r. FollowsScript script.now r) }
+{
+    let (told, _) = play_marked(alloc, script)?;
+    Ok(told)
 }
