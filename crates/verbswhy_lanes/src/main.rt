@@ -1,0 +1,13 @@
+//! `verbswhy` once more, with a stored run of its own: its word is `--lanes`, so it draws the run of its script.
+#![tactic(auto)]
+
+use std::process::ExitCode;
+use uv_io::{StdSink, StdSource};
+use uv_run::arguments;
+use uv_why::start;
+
+fn main(rt: HostRuntime) -> ExitCode {
+    let mut source = StdSource::new(rt.stdin());
+    let mut sink = StdSink::new(rt.stdout());
+    ExitCode::from(start(rt.alloc(), arguments(&rt), &mut source, &mut sink))
+}
