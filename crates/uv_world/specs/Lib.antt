@@ -1,0 +1,10 @@
+pub mod Celled
+pub mod Fitting
+pub mod Holdings
+pub mod Making
+pub mod Moving
+pub mod Owing
+pub mod Seating
+pub mod Stages
+pub mod Tearing
+pub mod Waiting

@@ -1,0 +1,24 @@
+//! The contents of objects beside the object core: regions, windows, completion queues, channels, shared receive queues,
+//! queue pairs and address handles, each planted, taken out and closed as the entries of the core's history say.
+#![tactic(auto)]
+
+mod beginning;
+mod cells;
+mod changing;
+mod content;
+mod contents;
+mod deeds;
+mod finding;
+pub mod laws;
+mod making;
+mod naming;
+mod stepping;
+mod tearing;
+mod world;
+
+pub use cells::Cell;
+pub use content::{Addressed, Belled, Bound, Connected, Content, Shared, Windowed};
+pub use contents::Contents;
+pub use making::content_for;
+pub use tearing::Turn;
+pub use world::{Doomed, World};
