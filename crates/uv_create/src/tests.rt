@@ -1,4 +1,0 @@
-//! Creates played to their ends, with deeds that have no contents.
-
-mod plays;
-mod rows;

@@ -1,5 +1,0 @@
-//! Teardowns played by hand, with deeds that have no contents.
-
-mod plays;
-mod rows;
-mod steps;
