@@ -7,6 +7,3 @@
 mod creating;
 
 pub use creating::{planted, step};
-
-#[cfg(test)]
-mod tests;

@@ -8,6 +8,3 @@
 mod destroying;
 
 pub use destroying::{finish, step};
-
-#[cfg(test)]
-mod tests;

@@ -12,6 +12,3 @@ mod sweeps;
 pub use begins::{close, tear};
 pub use devices::unplug;
 pub use sweeps::{gone, sweep};
-
-#[cfg(test)]
-mod tests;

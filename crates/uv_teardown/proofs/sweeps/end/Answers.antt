@@ -1,4 +1,4 @@
-use Rattle.std.proofs.Common.{◌≡◌, ℕ, subst}
+use Rattle.std.proofs.Common.{ℕ, subst}
 use Rattle.uv_machine.specs.Laws.{IsSwept}
 use Rattle.uv_machine.proofs.Sweeping.{may_close-swept, may_dissociate-swept}
 use Rattle.uv_teardown.proofs.Turned.{torn_within}
