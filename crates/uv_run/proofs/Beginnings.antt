@@ -39,7 +39,7 @@ use Rattle.uv_core.specs.Beside.{OthersKeep}
 use Rattle.uv_run.specs.declared.flight.Killed.{Killed}
 use Rattle.uv_run.specs.declared.flight.Teardown.{Teardown}
 use Rattle.uv_run.specs.declared.flight.Teardown.TheVariants.{Closing, Unplugging}
-use Rattle.uv_run.specs.declared.world.World.{World}
+use Rattle.uv_run.specs.declared.flights.Flights.{Flights}
 use Rattle.uv_run.specs.Site.{is_busy, killed_of, teardown_of, torn_by}
 use Rattle.uv_run.specs.Sound.{Began, CallIsSound, FitsIn, HoldsKill, HoldsOut, HasSpares, IsSound, Moved, OthersStay, SparesOne, TeardownFits, TearsOnly, site_of}
 use Rattle.uv_run.proofs.CallSounds.{holds_none, state_more}
@@ -53,36 +53,36 @@ use Rattle.uv_run.proofs.Tears.{torn_none, torn_stays}
 
 -- Who has nothing in flight.
 
-pub idle_call : (w : World) (a : ℕ) → is_busy (site_of w) a ≡ false → call_of (state_of w.core.history) a ≡ None
-idle_call w a e = (idle_parts (call_of (state_of w.core.history) a) (teardown_of (site_of w) a) e).0
+pub idle_call : (w : Flights) (a : ℕ) → is_busy (site_of w) a ≡ false → call_of (state_of w.world.core.history) a ≡ None
+idle_call w a e = (idle_parts (call_of (state_of w.world.core.history) a) (teardown_of (site_of w) a) e).0
 
-pub idle_teardown : (w : World) (a : ℕ) → is_busy (site_of w) a ≡ false → teardown_of (site_of w) a ≡ None
-idle_teardown w a e = (idle_parts (call_of (state_of w.core.history) a) (teardown_of (site_of w) a) e).1
+pub idle_teardown : (w : Flights) (a : ℕ) → is_busy (site_of w) a ≡ false → teardown_of (site_of w) a ≡ None
+idle_teardown w a e = (idle_parts (call_of (state_of w.world.core.history) a) (teardown_of (site_of w) a) e).1
 
-pub idle_tears : (w : World) (a : ℕ) → IsSound w → is_busy (site_of w) a ≡ false → TearsNone (own_of w.core a)
+pub idle_tears : (w : Flights) (a : ℕ) → IsSound w → is_busy (site_of w) a ≡ false → TearsNone (own_of w.world.core a)
 idle_tears w a sound e =
-    let P : Option Teardown → Type 0 = λ v. TeardownFits (own_of w.core a) v in
+    let P : Option Teardown → Type 0 = λ v. TeardownFits (own_of w.world.core a) v in
     subst P (idle_teardown w a e) (sound.fits a).suits
 
 -- A close.
 
 -- a world in which an actor's close has come into flight
 pub closing_moved :
-    (a f : ℕ) (old new : World) → IsSound old → is_busy (site_of old) a ≡ false → IsActor a → a ≢ DRIVER → f < FILES → new.core ≡ old.core
+    (a f : ℕ) (old new : Flights) → IsSound old → is_busy (site_of old) a ≡ false → IsActor a → a ≢ DRIVER → f < FILES → new.world.core ≡ old.world.core
     → new.teardowns ≡ at_place old.teardowns a (put_slot (Some (Closing f))) → new.killed ≡ old.killed → new.outs ≡ old.outs → new.kills ≡ old.kills → Moved a old new
 closing_moved a f old new sound idle actor other file core teardowns killed outs kills =
     let P : Kept → Type 0 = λ v. IsLegal v.history in
-    let own : (b : ℕ) → own_of new.core b ≡ own_of old.core b = λ b. ap (λ (k : Kept). own_of k b) core in
+    let own : (b : ℕ) → own_of new.world.core b ≡ own_of old.world.core b = λ b. ap (λ (k : Kept). own_of k b) core in
     let fits = sound.fits a in
     let there : teardown_of (site_of new) a ≡ Some (Closing f) = ap (λ (ts : List (Option Teardown)). slot_of (slice_get ts a)) teardowns ∙ put_there old.teardowns a (Some (Closing f)) (omega (arith, sound.teardowns, actor.1)) in
-    let none : torn_by (state_of old.core.history) a ≡ None = idle_tears old a sound idle in
+    let none : torn_by (state_of old.world.core.history) a ≡ None = idle_tears old a sound idle in
     let K : Own → Type 0 = λ v. HoldsKill v.kill (killed_of (site_of new) a) (slot_of (slice_get new.kills a)) in
     let C : Own → Type 0 = λ v. CallIsSound v.actor v.call in
     let O1 : Own → Type 0 = λ v. HoldsOut v.out v.call (slot_of (slice_get new.outs a)) in
-    let O2 : List (Option PlainDeed) → Type 0 = λ v. HoldsOut (own_of old.core a).out (own_of old.core a).call (slot_of (slice_get v a)) in
-    let K2 : List (Option Killed) → Type 0 = λ v. HoldsKill (own_of old.core a).kill (slot_of (slice_get v a)) (slot_of (slice_get new.kills a)) in
-    let K3 : List (Option PlainDeed) → Type 0 = λ v. HoldsKill (own_of old.core a).kill (killed_of (site_of old) a) (slot_of (slice_get v a)) in
-    let S : Option Teardown → Type 0 = λ v. TeardownFits (own_of new.core a) v in
+    let O2 : List (Option PlainDeed) → Type 0 = λ v. HoldsOut (own_of old.world.core a).out (own_of old.world.core a).call (slot_of (slice_get v a)) in
+    let K2 : List (Option Killed) → Type 0 = λ v. HoldsKill (own_of old.world.core a).kill (slot_of (slice_get v a)) (slot_of (slice_get new.kills a)) in
+    let K3 : List (Option PlainDeed) → Type 0 = λ v. HoldsKill (own_of old.world.core a).kill (killed_of (site_of old) a) (slot_of (slice_get v a)) in
+    let S : Option Teardown → Type 0 = λ v. TeardownFits (own_of new.world.core a) v in
     let T : Option ℕ → Type 0 = λ v. TearsOnly v f in
     let T2 : Own → Type 0 = λ v. TearsOnly v.tear f in
     moved_after old new a sound (subst P (sym core) sound.legal)
@@ -93,7 +93,7 @@ closing_moved a f old new sound idle actor other file core teardowns killed outs
       outs = λ b ne. ap (λ (v : List (Option PlainDeed)). slot_of (slice_get v b)) outs;
       kills = λ b ne. ap (λ (v : List (Option PlainDeed)). slot_of (slice_get v b)) kills;
     }
-    (ends_same old.core new.core core)
+    (ends_same old.world.core new.world.core core)
     record {
       call = subst C (sym (own a)) fits.call;
       outs = subst O1 (sym (own a)) (subst O2 (sym outs) fits.outs);
@@ -102,7 +102,7 @@ closing_moved a f old new sound idle actor other file core teardowns killed outs
     }
 
 -- one move after another of the same actor
-pub moved_then : (a : ℕ) (old mid new : World) → Moved a old mid → Moved a mid new → Moved a old new
+pub moved_then : (a : ℕ) (old mid new : Flights) → Moved a old mid → Moved a mid new → Moved a old new
 moved_then a old mid new first second = record {
   sound = second.sound;
   spares = second.spares ∙ first.spares;
@@ -117,10 +117,10 @@ moved_then a old mid new first second = record {
 }
 
 -- a move is a begin that took no room
-pub moved_began : (a : ℕ) (old new : World) → Moved a old new → Began a old new
+pub moved_began : (a : ℕ) (old new : Flights) → Moved a old new → Began a old new
 moved_began a old new m = record {
   sound = m.sound;
-  spares = λ c. (let e : spare_of new.core c ≡ spare_of old.core c = ap (λ (v : List ℕ). unwrap_or (slice_get v c) 0) m.spares in omega (arith, e));
+  spares = λ c. (let e : spare_of new.world.core c ≡ spare_of old.world.core c = ap (λ (v : List ℕ). unwrap_or (slice_get v c) 0) m.spares in omega (arith, e));
   keep = m.keep;
   stay = m.stay;
 }
@@ -148,16 +148,16 @@ pulls_after m d a driver plugged =
     ∙ slice_get-mapped not (after m (Unplug d)).plugged d ∙ ap (option_map not) (slice_get-at_place_same m.plugged d without_plug) ∙ pulled_at (slice_get m.plugged d) was
 
 pub unplug_moved :
-    (a d : ℕ) (old new : World) → IsSound old → a ≡ DRIVER → d < DEVICES → IsLegal new.core.history → IsPulled old.core new.core d → OthersKeep a old.core new.core
+    (a d : ℕ) (old new : Flights) → IsSound old → a ≡ DRIVER → d < DEVICES → IsLegal new.world.core.history → IsPulled old.world.core new.world.core d → OthersKeep a old.world.core new.world.core
     → new.teardowns ≡ at_place old.teardowns a (put_slot (Some (Unplugging d))) → new.killed ≡ old.killed → new.outs ≡ old.outs → new.kills ≡ old.kills → Moved a old new
 unplug_moved a d old new sound driver low legal p keep teardowns killed outs kills =
     let n = p.notes in
     let there : teardown_of (site_of new) a ≡ Some (Unplugging d) =
     ap (λ (ts : List (Option Teardown)). slot_of (slice_get ts a)) teardowns ∙ put_there old.teardowns a (Some (Unplugging d)) (omega (arith, sound.teardowns, driver))
     in
-    let now = state_more old.core.history new.core.history (Unplug d) n.history in
-    let S : Option Teardown → Type 0 = λ v. TeardownFits (own_of new.core a) v in
-    let pulls : slice_get (pulled_by (state_of new.core.history) a) d ≡ Some true = ap (λ (s : State). slice_get (pulled_by s a) d) now ∙ pulls_after (state_of old.core.history) d a driver p.plugged in
+    let now = state_more old.world.core.history new.world.core.history (Unplug d) n.history in
+    let S : Option Teardown → Type 0 = λ v. TeardownFits (own_of new.world.core a) v in
+    let pulls : slice_get (pulled_by (state_of new.world.core.history) a) d ≡ Some true = ap (λ (s : State). slice_get (pulled_by s a) d) now ∙ pulls_after (state_of old.world.core.history) d a driver p.plugged in
     moved_after old new a sound legal
     (record { teardowns = ap length teardowns ∙ length-at_place old.teardowns a (put_slot (Some (Unplugging d))); killed = ap length killed; outs = ap length outs; kills = ap length kills }) n.spares keep
     record {
@@ -166,7 +166,7 @@ unplug_moved a d old new sound driver low legal p keep teardowns killed outs kil
       outs = λ b ne. ap (λ (v : List (Option PlainDeed)). slot_of (slice_get v b)) outs;
       kills = λ b ne. ap (λ (v : List (Option PlainDeed)). slot_of (slice_get v b)) kills;
     }
-    (ends_entry old.core new.core (Unplug d) n.history (λ f. moved_none (state_of old.core.history) (Unplug d) f refl))
+    (ends_entry old.world.core new.world.core (Unplug d) n.history (λ f. moved_none (state_of old.world.core.history) (Unplug d) f refl))
     (entry_fits old new a (Unplug d) sound refl n.history n.outs outs (kill_held old new a n.kills killed kills (sound.fits a)) (subst S (sym there) (driver, low, pulls)))
 
 -- Entries of opens and enters, with a room for a refused one taken or not.
@@ -222,16 +222,16 @@ idle_out None slot holds = (refl, holds)
 idle_out (Some out) None holds = absurd holds
 idle_out (Some out) (Some deed) holds = absurd holds
 
-holds_idle : (w : World) (a : ℕ) → IsSound w → call_of (state_of w.core.history) a ≡ None → (out_of w.core a ≡ None) × (slot_of (slice_get w.outs a) ≡ None)
+holds_idle : (w : Flights) (a : ℕ) → IsSound w → call_of (state_of w.world.core.history) a ≡ None → (out_of w.world.core a ≡ None) × (slot_of (slice_get w.outs a) ≡ None)
 holds_idle w a sound idle =
-    let P : Option InFlight → Type 0 = λ v. HoldsOut (out_of w.core a) v (slot_of (slice_get w.outs a)) in
-    idle_out (out_of w.core a) (slot_of (slice_get w.outs a)) (subst P idle (sound.fits a).outs)
+    let P : Option InFlight → Type 0 = λ v. HoldsOut (out_of w.world.core a) v (slot_of (slice_get w.outs a)) in
+    idle_out (out_of w.world.core a) (slot_of (slice_get w.outs a)) (subst P idle (sound.fits a).outs)
 
 pub began_by :
-    (a : ℕ) (old : World) (k : Kept) (e : Entry) → IsSound old → is_busy (site_of old) a ≡ false → TakesOne old.core k e → IsLegal k.history → OthersKeep a old.core k → CallIsSound a (call_of (state_of k.history) a)
+    (a : ℕ) (old : Flights) (k : Kept) (e : Entry) → IsSound old → is_busy (site_of old) a ≡ false → TakesOne old.world.core k e → IsLegal k.history → OthersKeep a old.world.core k → CallIsSound a (call_of (state_of k.history) a)
     → torn_by (state_of k.history) a ≡ None → Began a old (record old { core = k })
 began_by a old k e sound idle takes legal keep call torn =
-    let new : World = record old { core = k } in
+    let new : Flights = record old { core = k } in
     let none = holds_idle old a sound (idle_call old a idle) in
     let S : Option Teardown → Type 0 = λ v. TeardownFits (own_of k a) v in
     record {
@@ -281,22 +281,22 @@ call_same m m' a none same =
     subst P (sym (same ∙ none)) tt
 
 pub open_began :
-    (a f d : ℕ) (old : World) (k : Kept) (r : Result (Unit {0}) Errno) → IsSound old → is_busy (site_of old) a ≡ false → IsClient a → HasSpares 1 old.core → OpenGives old.core k a f d r → IsLegal k.history → OthersKeep a old.core k
+    (a f d : ℕ) (old : Flights) (k : Kept) (r : Result (Unit {0}) Errno) → IsSound old → is_busy (site_of old) a ≡ false → IsClient a → HasSpares 1 old.world.core → OpenGives old.world.core k a f d r → IsLegal k.history → OthersKeep a old.world.core k
     → Began a old (record old { core = k })
 open_began a f d old k (Ok u) sound idle client room gives legal keep =
-    let m = state_of old.core.history in
-    let now = state_more old.core.history k.history (Open a f d answer.Ok) gives.notes.history in
-    began_by a old k (Open a f d answer.Ok) sound idle (takes_new old.core k (Open a f d answer.Ok) gives.notes) legal keep
+    let m = state_of old.world.core.history in
+    let now = state_more old.world.core.history k.history (Open a f d answer.Ok) gives.notes.history in
+    began_by a old k (Open a f d answer.Ok) sound idle (takes_new old.world.core k (Open a f d answer.Ok) gives.notes) legal keep
     (call_same m (state_of k.history) a (idle_call old a idle) (ap (λ (s : State). call_of s a) now ∙ calls_stand_apart m (Open a f d answer.Ok) a refl))
     (ap (λ (s : State). torn_by s a) now ∙ torn_stays m (after m (Open a f d answer.Ok)) a (torn_opened m a f d gives.may) ∙ idle_tears old a sound idle)
 open_began a f d old k (Err e) sound idle client room (inl gives) legal keep =
-    let m = state_of old.core.history in
-    let takes = takes_either old.core k (Open a f d (answer.Refused e)) a gives.notes in
-    let now = state_more old.core.history k.history (Open a f d (answer.Refused e)) takes.history in
+    let m = state_of old.world.core.history in
+    let takes = takes_either old.world.core k (Open a f d (answer.Refused e)) a gives.notes in
+    let now = state_more old.world.core.history k.history (Open a f d (answer.Refused e)) takes.history in
     began_by a old k (Open a f d (answer.Refused e)) sound idle takes legal keep
     (call_same m (state_of k.history) a (idle_call old a idle) (ap (λ (s : State). call_of s a) now))
     (ap (λ (s : State). torn_by s a) now ∙ idle_tears old a sound idle)
-open_began a f d old k (Err e) sound idle client room (inr lost) legal keep = absurd (not_lost old.core k a e client room lost)
+open_began a f d old k (Err e) sound idle client room (inr lost) legal keep = absurd (not_lost old.world.core k a e client room lost)
 
 -- A call that enters.
 
@@ -310,20 +310,20 @@ enter_call m a f request client finds =
     subst P (sym (slice_get-at_place_same m.calls a (put_call (entered f request)))) (entered_fits a f request (slice_get m.calls a) client finds)
 
 pub enter_began :
-    (a f : ℕ) (request : Request) (old : World) (k : Kept) (r : Result (Unit {0}) Errno) → IsSound old → is_busy (site_of old) a ≡ false → IsClient a → role_finds (role_of request) ≡ false → HasSpares 1 old.core
-    → EnterGives old.core k a f request r → IsLegal k.history → OthersKeep a old.core k → Began a old (record old { core = k })
+    (a f : ℕ) (request : Request) (old : Flights) (k : Kept) (r : Result (Unit {0}) Errno) → IsSound old → is_busy (site_of old) a ≡ false → IsClient a → role_finds (role_of request) ≡ false → HasSpares 1 old.world.core
+    → EnterGives old.world.core k a f request r → IsLegal k.history → OthersKeep a old.world.core k → Began a old (record old { core = k })
 enter_began a f request old k (Ok u) sound idle client finds room gives legal keep =
-    let m = state_of old.core.history in
-    let now = state_more old.core.history k.history (Enter a f request answer.Ok) gives.notes.history in
+    let m = state_of old.world.core.history in
+    let now = state_more old.world.core.history k.history (Enter a f request answer.Ok) gives.notes.history in
     let P : State → Type 0 = λ v. CallIsSound a (call_of v a) in
-    began_by a old k (Enter a f request answer.Ok) sound idle (takes_new old.core k (Enter a f request answer.Ok) gives.notes) legal keep
+    began_by a old k (Enter a f request answer.Ok) sound idle (takes_new old.world.core k (Enter a f request answer.Ok) gives.notes) legal keep
     (subst P (sym now) (enter_call m a f request client finds))
     (ap (λ (s : State). torn_by s a) now ∙ idle_tears old a sound idle)
 enter_began a f request old k (Err e) sound idle client finds room (inl gives) legal keep =
-    let m = state_of old.core.history in
-    let takes = takes_either old.core k (Enter a f request (answer.Refused e)) a gives.notes in
-    let now = state_more old.core.history k.history (Enter a f request (answer.Refused e)) takes.history in
+    let m = state_of old.world.core.history in
+    let takes = takes_either old.world.core k (Enter a f request (answer.Refused e)) a gives.notes in
+    let now = state_more old.world.core.history k.history (Enter a f request (answer.Refused e)) takes.history in
     began_by a old k (Enter a f request (answer.Refused e)) sound idle takes legal keep
     (call_same m (state_of k.history) a (idle_call old a idle) (ap (λ (s : State). call_of s a) now))
     (ap (λ (s : State). torn_by s a) now ∙ idle_tears old a sound idle)
-enter_began a f request old k (Err e) sound idle client finds room (inr lost) legal keep = absurd (not_lost old.core k a e client room lost)
+enter_began a f request old k (Err e) sound idle client finds room (inr lost) legal keep = absurd (not_lost old.world.core k a e client room lost)

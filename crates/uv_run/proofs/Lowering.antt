@@ -11,7 +11,7 @@ use Rattle.uv_machine.proofs.Owing.{owed_after}
 use Rattle.uv_graph.specs.Seats.{slot_of}
 use Rattle.uv_graph.specs.Slots.{put_slot}
 use Rattle.uv_run.specs.declared.flight.Teardown.{Teardown}
-use Rattle.uv_run.specs.declared.world.World.{World}
+use Rattle.uv_run.specs.declared.flights.Flights.{Flights}
 use Rattle.uv_run.specs.Progress.{ahead, flying}
 use Rattle.uv_run.specs.Site.{Site, state_at, teardown_of}
 use Rattle.uv_run.specs.Sound.{site_of}
@@ -19,12 +19,12 @@ use Rattle.uv_run.proofs.CallSounds.{last_allowed, state_more}
 
 -- by an entry that costs nothing
 pub entry_lowers :
-    (old new : World) (e : Entry) → IsLegal new.core.history → new.core.history ≡ old.core.history ++ e ∷ [] → costs e ≡ 0 → sum_by flying new.teardowns ≤ sum_by flying old.teardowns
+    (old new : Flights) (e : Entry) → IsLegal new.world.core.history → new.world.core.history ≡ old.world.core.history ++ e ∷ [] → costs e ≡ 0 → sum_by flying new.teardowns ≤ sum_by flying old.teardowns
     → ahead (site_of new) < ahead (site_of old)
 entry_lowers old new e legal more free fewer =
-    let m = state_of old.core.history in
-    let covers : owed (after m e) + 1 ≤ owed m + costs e = owed_after m e (last_allowed old.core.history new.core.history e legal more) in
-    let now : owed (state_of new.core.history) ≡ owed (after m e) = ap owed (state_more old.core.history new.core.history e more) in
+    let m = state_of old.world.core.history in
+    let covers : owed (after m e) + 1 ≤ owed m + costs e = owed_after m e (last_allowed old.world.core.history new.world.core.history e legal more) in
+    let now : owed (state_of new.world.core.history) ≡ owed (after m e) = ap owed (state_more old.world.core.history new.world.core.history e more) in
     omega (arith, covers, now, free, fewer)
 
 there : (slot : Option (Option Teardown)) (t : Teardown) → slot_of slot ≡ Some t → slot ≡ Some (Some t)

@@ -22,7 +22,7 @@ use Rattle.uv_graph.specs.declared.out.Own.{Own}
 use Rattle.uv_graph.specs.Owns.{is_torn_by, own_of}
 use Rattle.uv_run.specs.declared.flight.Teardown.{Teardown}
 use Rattle.uv_run.specs.declared.flight.Teardown.TheVariants.{Closing, Unplugging}
-use Rattle.uv_run.specs.declared.world.World.{World}
+use Rattle.uv_run.specs.declared.flights.Flights.{Flights}
 use Rattle.uv_run.specs.Ends.{AreIdle}
 use Rattle.uv_run.specs.Runs.{StaysIdle}
 use Rattle.uv_run.specs.Site.{Site, close_turn, closes, is_busy, state_at, teardown_of, torn_by, with_teardown}
@@ -42,8 +42,8 @@ ending_more m m' n before stays now g low =
     subst P (let e : n ≡ g = omega (arith, high, low) in e) now))
     (cases_lt g n)
 
-module _ (w : World) (sound : IsSound w) (idle : AreIdle (site_of w) ENDER) where
-  no_call : (b : ℕ) (slot : Option InFlight) → call_of (state_of w.core.history) b ≡ slot → slot ≡ None
+module _ (w : Flights) (sound : IsSound w) (idle : AreIdle (site_of w) ENDER) where
+  no_call : (b : ℕ) (slot : Option InFlight) → call_of (state_of w.world.core.history) b ≡ slot → slot ≡ None
   no_call b None is = refl
   no_call b (Some call) is =
       let P : Option InFlight → Type 0 = λ v. CallIsSound b v in
@@ -52,38 +52,38 @@ module _ (w : World) (sound : IsSound w) (idle : AreIdle (site_of w) ENDER) wher
       sym is ∙ idle_call w b (idle b client.0 low)
 
   -- no call is in flight
-  pub all_idle : IsIdle (state_of w.core.history)
-  all_idle b = no_call b (call_of (state_of w.core.history) b) refl
+  pub all_idle : IsIdle (state_of w.world.core.history)
+  all_idle b = no_call b (call_of (state_of w.world.core.history) b) refl
 
   actor_of : (o : Own) (t : Teardown) → TeardownFits o (Some t) → IsActor o.actor
   actor_of o (Closing f) suits = suits.0
   actor_of o (Unplugging d) suits = let P : ℕ → Type 0 = λ v. IsActor v in subst P (sym suits.0) (omega arith, omega arith)
 
-  tears_none : (b : ℕ) (t : Option Teardown) → teardown_of (site_of w) b ≡ t → TeardownFits (own_of w.core b) t → torn_by (state_of w.core.history) b ≡ None
+  tears_none : (b : ℕ) (t : Option Teardown) → teardown_of (site_of w) b ≡ t → TeardownFits (own_of w.world.core b) t → torn_by (state_of w.world.core.history) b ≡ None
   tears_none b None is suits = suits
   tears_none b (Some t) is suits =
-      let actor = actor_of (own_of w.core b) t suits in
+      let actor = actor_of (own_of w.world.core b) t suits in
       let low : b ≤ ENDER = omega (arith, actor.1) in
       let none : teardown_of (site_of w) b ≡ None = idle_teardown w b (idle b actor.0 low) in
       let k : None ≡ Some t = sym none ∙ is in
       absurd (cc)
 
   -- no file is being torn
-  not_torn : (f b : ℕ) → phase_of (state_of w.core.history) f ≡ file.Tearing b → ⊥
+  not_torn : (f b : ℕ) → phase_of (state_of w.world.core.history) f ≡ file.Tearing b → ⊥
   not_torn f b is =
       let none = tears_none b (teardown_of (site_of w) b) refl (sound.fits b).suits in
-      let no : is_torn_by b (phase_of (state_of w.core.history) f) ≡ false = torn_none (state_of w.core.history) b none f in
-      let yes : is_torn_by b (phase_of (state_of w.core.history) f) ≡ true = ap (is_torn_by b) is ∙ eq-eqb b b refl in
+      let no : is_torn_by b (phase_of (state_of w.world.core.history) f) ≡ false = torn_none (state_of w.world.core.history) b none f in
+      let yes : is_torn_by b (phase_of (state_of w.world.core.history) f) ≡ true = ap (is_torn_by b) is ∙ eq-eqb b b refl in
       cc
 
-  over_of : (f : ℕ) (p : FilePhase) → phase_of (state_of w.core.history) f ≡ p → is_ending p ≡ true → is_over p ≡ true
+  over_of : (f : ℕ) (p : FilePhase) → phase_of (state_of w.world.core.history) f ≡ p → is_ending p ≡ true → is_over p ≡ true
   over_of f file.Fresh is ends = refl
   over_of f file.Open is ends = absurd (cc)
   over_of f (file.Tearing by) is ends = absurd (not_torn f by is)
   over_of f file.Dissociated is ends = absurd (cc)
   over_of f file.Closed is ends = refl
 
-  ending_of : (f : ℕ) (p : FilePhase) → phase_of (state_of w.core.history) f ≡ p → is_callable p ≡ false → is_ending p ≡ true
+  ending_of : (f : ℕ) (p : FilePhase) → phase_of (state_of w.world.core.history) f ≡ p → is_callable p ≡ false → is_ending p ≡ true
   ending_of f file.Fresh is none = refl
   ending_of f file.Open is none = absurd (cc)
   ending_of f (file.Tearing by) is none = absurd (not_torn f by is)
@@ -91,20 +91,20 @@ module _ (w : World) (sound : IsSound w) (idle : AreIdle (site_of w) ENDER) wher
   ending_of f file.Closed is none = refl
 
   -- a file that calls may not enter is over
-  pub not_callable : (f : ℕ) → is_callable (phase_of (state_of w.core.history) f) ≡ false → is_ending (phase_of (state_of w.core.history) f) ≡ true
-  not_callable f none = ending_of f (phase_of (state_of w.core.history) f) refl none
+  pub not_callable : (f : ℕ) → is_callable (phase_of (state_of w.world.core.history) f) ≡ false → is_ending (phase_of (state_of w.world.core.history) f) ≡ true
+  not_callable f none = ending_of f (phase_of (state_of w.world.core.history) f) refl none
 
-  over_at : (f : ℕ) (slot : Option File) → slice_get (state_of w.core.history).files f ≡ slot → ((g : ℕ) → g < FILES → is_ending (phase_of (state_of w.core.history) g) ≡ true) → is_over (phase_in slot) ≡ true
+  over_at : (f : ℕ) (slot : Option File) → slice_get (state_of w.world.core.history).files f ≡ slot → ((g : ℕ) → g < FILES → is_ending (phase_of (state_of w.world.core.history) g) ≡ true) → is_over (phase_in slot) ≡ true
   over_at f None is ends = refl
   over_at f (Some x) is ends =
-      let low = slice_get_within (state_of w.core.history).files f x is in
-      let size = (Reached-state_of w.core.history sound.legal).files in
-      let phase : phase_of (state_of w.core.history) f ≡ x.phase = ap phase_in is in
+      let low = slice_get_within (state_of w.world.core.history).files f x is in
+      let size = (Reached-state_of w.world.core.history sound.legal).files in
+      let phase : phase_of (state_of w.world.core.history) f ≡ x.phase = ap phase_in is in
       over_of f x.phase phase (sym (ap is_ending phase) ∙ ends f (omega (arith, low, size)))
 
   -- each file is over where those with numbers are
-  pub all_over : ((g : ℕ) → g < FILES → is_ending (phase_of (state_of w.core.history) g) ≡ true) → AreOver (state_of w.core.history)
-  all_over ends f = over_at f (slice_get (state_of w.core.history).files f) refl ends
+  pub all_over : ((g : ℕ) → g < FILES → is_ending (phase_of (state_of w.world.core.history) g) ≡ true) → AreOver (state_of w.world.core.history)
+  all_over ends f = over_at f (slice_get (state_of w.world.core.history).files f) refl ends
 
 -- What a close by the end of the script leaves of the file.
 

@@ -23,7 +23,7 @@ use Rattle.uv_run.specs.declared.flight.Task.TheVariants as task
 use Rattle.uv_run.specs.declared.flight.Teardown.{Teardown}
 use Rattle.uv_run.specs.declared.reply.Telling.{Telling}
 use Rattle.uv_run.specs.declared.reply.Telling.TheVariants.{ToEnd}
-use Rattle.uv_run.specs.declared.world.World.{World}
+use Rattle.uv_run.specs.declared.flights.Flights.{Flights}
 use Rattle.uv_run.specs.Asking.{Asking}
 use Rattle.uv_run.specs.Progress.{HasRoomFor}
 use Rattle.uv_run.specs.Ranges.{IsInDeed, IsInReach}
@@ -46,32 +46,32 @@ on_both (Err e) X Y Z f x y = x
 
 -- Steps one after the other.
 
-pub stays_sound : (w : World) → IsSound w → StaysSound w w
+pub stays_sound : (w : Flights) → IsSound w → StaysSound w w
 stays_sound w sound = record { sound = sound; spares = refl; idle = λ b is. is; ends = λ f is. is }
 
-pub stays_then : (old mid new : World) → StaysSound old mid → StaysSound mid new → StaysSound old new
+pub stays_then : (old mid new : Flights) → StaysSound old mid → StaysSound mid new → StaysSound old new
 stays_then old mid new first second =
     record { sound = second.sound; spares = second.spares ∙ first.spares; idle = λ b is. second.idle b (first.idle b is); ends = λ f is. second.ends f (first.ends f is) }
 
 spares_same : (old new : Kept) → new.spares ≡ old.spares → SparesOne old new
 spares_same old new same c = let e : spare_of new c ≡ spare_of old c = ap (λ (v : List ℕ). unwrap_or (slice_get v c) 0) same in omega (arith, e)
 
-pub stays_goes : (old new : World) → StaysSound old new → GoesSound old new
-stays_goes old new s = record { sound = s.sound; spares = spares_same old.core new.core s.spares; ender = s.idle ENDER }
+pub stays_goes : (old new : Flights) → StaysSound old new → GoesSound old new
+stays_goes old new s = record { sound = s.sound; spares = spares_same old.world.core new.world.core s.spares; ender = s.idle ENDER }
 
-pub goes_then : (old mid new : World) → GoesSound old mid → StaysSound mid new → GoesSound old new
+pub goes_then : (old mid new : Flights) → GoesSound old mid → StaysSound mid new → GoesSound old new
 goes_then old mid new first second = record {
   sound = second.sound;
-  spares = λ c. (let e : spare_of new.core c ≡ spare_of mid.core c = ap (λ (v : List ℕ). unwrap_or (slice_get v c) 0) second.spares in
+  spares = λ c. (let e : spare_of new.world.core c ≡ spare_of mid.world.core c = ap (λ (v : List ℕ). unwrap_or (slice_get v c) 0) second.spares in
       let k = first.spares c in
       omega (arith, e, k));
   ender = λ is. second.idle ENDER (first.ender is);
 }
 
-pub then_goes : (old mid new : World) → StaysSound old mid → GoesSound mid new → GoesSound old new
+pub then_goes : (old mid new : Flights) → StaysSound old mid → GoesSound mid new → GoesSound old new
 then_goes old mid new first second = record {
   sound = second.sound;
-  spares = λ c. (let e : spare_of mid.core c ≡ spare_of old.core c = ap (λ (v : List ℕ). unwrap_or (slice_get v c) 0) first.spares in
+  spares = λ c. (let e : spare_of mid.world.core c ≡ spare_of old.world.core c = ap (λ (v : List ℕ). unwrap_or (slice_get v c) 0) first.spares in
       let k = second.spares c in
       omega (arith, e, k));
   ender = λ is. second.ender (first.idle ENDER is);
@@ -79,11 +79,11 @@ then_goes old mid new first second = record {
 
 -- Begins.
 
-idle_began : (a : ℕ) (old new : World) → Began a old new → (b : ℕ) → b ≢ a → is_busy (site_of old) b ≡ false → is_busy (site_of new) b ≡ false
+idle_began : (a : ℕ) (old new : Flights) → Began a old new → (b : ℕ) → b ≢ a → is_busy (site_of old) b ≡ false → is_busy (site_of new) b ≡ false
 idle_began a old new m b ne idle =
-    let call : call_of (state_of new.core.history) b ≡ call_of (state_of old.core.history) b = ap (λ (o : Own). o.call) (m.keep b ne) in
+    let call : call_of (state_of new.world.core.history) b ≡ call_of (state_of old.world.core.history) b = ap (λ (o : Own). o.call) (m.keep b ne) in
     ap (λ (v : Option InFlight). not (is_none v) || not (is_none (teardown_of (site_of new) b))) call
-    ∙ ap (λ (v : Option Teardown). not (is_none (call_of (state_of old.core.history) b)) || not (is_none v)) (m.stay.teardowns b ne) ∙ idle
+    ∙ ap (λ (v : Option Teardown). not (is_none (call_of (state_of old.world.core.history) b)) || not (is_none v)) (m.stay.teardowns b ne) ∙ idle
 
 reach_not : (a : ℕ) (t : Task) → IsInReach a t → ENDER ≢ a
 reach_not a (task.Opens f d) reach e = omega (arith, e, reach.0.1)
@@ -91,25 +91,25 @@ reach_not a (task.Calls f request) reach e = omega (arith, e, reach.0.1)
 reach_not a (task.Closes f) reach e = omega (arith, e, reach.0.1)
 reach_not a (task.Unplugs d) reach e = omega (arith, e, reach.0)
 
-pub began_goes : (a : ℕ) (t : Task) (old new : World) → IsInReach a t → Began a old new → GoesSound old new
+pub began_goes : (a : ℕ) (t : Task) (old new : Flights) → IsInReach a t → Began a old new → GoesSound old new
 began_goes a t old new reach b = record { sound = b.sound; spares = b.spares; ender = λ is. idle_began a old new b ENDER (reach_not a t reach) is }
 
 -- the same from a world that is another's
-pub began_from : (a : ℕ) (t : Task) (old was new now : World) → IsInReach a t → was ≡ old → Began a was new → now ≡ new → GoesSound old now
+pub began_from : (a : ℕ) (t : Task) (old was new now : Flights) → IsInReach a t → was ≡ old → Began a was new → now ≡ new → GoesSound old now
 began_from a t old was new now reach first b same =
-    let P : World → Type 0 = λ v. GoesSound v now in
-    let Q : World → Type 0 = λ v. GoesSound was v in
+    let P : Flights → Type 0 = λ v. GoesSound v now in
+    let Q : Flights → Type 0 = λ v. GoesSound was v in
     subst P first (subst Q (sym same) (began_goes a t was new reach b))
 
 -- A close that has run to its end.
 
-idle_moved : (a : ℕ) (old new : World) → Moved a old new → (b : ℕ) → b ≢ a → is_busy (site_of old) b ≡ false → is_busy (site_of new) b ≡ false
+idle_moved : (a : ℕ) (old new : Flights) → Moved a old new → (b : ℕ) → b ≢ a → is_busy (site_of old) b ≡ false → is_busy (site_of new) b ≡ false
 idle_moved a old new m b ne idle =
-    let call : call_of (state_of new.core.history) b ≡ call_of (state_of old.core.history) b = ap (λ (o : Own). o.call) (m.keep b ne) in
+    let call : call_of (state_of new.world.core.history) b ≡ call_of (state_of old.world.core.history) b = ap (λ (o : Own). o.call) (m.keep b ne) in
     ap (λ (v : Option InFlight). not (is_none v) || not (is_none (teardown_of (site_of new) b))) call
-    ∙ ap (λ (v : Option Teardown). not (is_none (call_of (state_of old.core.history) b)) || not (is_none v)) (m.stay.teardowns b ne) ∙ idle
+    ∙ ap (λ (v : Option Teardown). not (is_none (call_of (state_of old.world.core.history) b)) || not (is_none v)) (m.stay.teardowns b ne) ∙ idle
 
-pub close_stays : (a : ℕ) (old mid new : World) → Moved a old mid → StaysSound mid new → is_busy (site_of new) a ≡ false → StaysSound old new
+pub close_stays : (a : ℕ) (old mid new : Flights) → Moved a old mid → StaysSound mid new → is_busy (site_of new) a ≡ false → StaysSound old new
 close_stays a old mid new m s ended = record {
   sound = s.sound;
   spares = s.spares ∙ m.spares;

@@ -14,7 +14,7 @@ use Rattle.uv_graph.specs.Owns.{own_of}
 use Rattle.uv_graph.specs.Seats.{slot_of}
 use Rattle.uv_run.specs.declared.flight.Killed.{Killed}
 use Rattle.uv_run.specs.declared.flight.Teardown.{Teardown}
-use Rattle.uv_run.specs.declared.world.World.{World}
+use Rattle.uv_run.specs.declared.flights.Flights.{Flights}
 use Rattle.uv_run.specs.Site.{Site, is_busy, killed_of, start_site, teardown_of, torn_by}
 use Rattle.uv_run.specs.Sound.{CallIsSound, HoldsKill, HoldsOut, IsSound, TeardownFits, site_of}
 use Rattle.uv_run.proofs.CallSounds.{holds_none}
@@ -45,10 +45,10 @@ call_fits_none a slot e =
     subst P (sym e) tt
 
 pub start_sound :
-    (w : World) → IsFresh w.core → w.teardowns ≡ replicate ACTOR_PLACES None → w.killed ≡ replicate ACTOR_PLACES None → length w.outs ≡ ACTOR_PLACES → length w.kills ≡ ACTOR_PLACES
+    (w : Flights) → IsFresh w.world.core → w.teardowns ≡ replicate ACTOR_PLACES None → w.killed ≡ replicate ACTOR_PLACES None → length w.outs ≡ ACTOR_PLACES → length w.kills ≡ ACTOR_PLACES
     → HoldsNone w.outs → HoldsNone w.kills → IsSound w
 start_sound w fresh teardowns killed outs kills none_outs none_kills =
-    let now : state_of w.core.history ≡ start = ap state_of fresh.history in
+    let now : state_of w.world.core.history ≡ start = ap state_of fresh.history in
     record {
       legal = subst IsLegal (sym fresh.history) tt;
       teardowns = ap length teardowns;
@@ -56,14 +56,14 @@ start_sound w fresh teardowns killed outs kills none_outs none_kills =
       outs = outs;
       kills = kills;
       fits = λ a.
-          let call : call_of (state_of w.core.history) a ≡ None = ap (λ (s : State). call_of s a) now ∙ start_call a in
+          let call : call_of (state_of w.world.core.history) a ≡ None = ap (λ (s : State). call_of s a) now ∙ start_call a in
           let gone : teardown_of (site_of w) a ≡ None = ap (λ (v : List (Option Teardown)). slot_of (slice_get v a)) teardowns ∙ nothing_in ACTOR_PLACES a in
           let left : killed_of (site_of w) a ≡ None = ap (λ (v : List (Option Killed)). slot_of (slice_get v a)) killed ∙ nothing_in ACTOR_PLACES a in
-          let S : Option Teardown → Type 0 = λ v. TeardownFits (own_of w.core a) v in
+          let S : Option Teardown → Type 0 = λ v. TeardownFits (own_of w.world.core a) v in
           record {
-            call = call_fits_none a (call_of (state_of w.core.history) a) call;
-            outs = holds_none (out_of w.core a) (call_of (state_of w.core.history) a) (slot_of (slice_get w.outs a)) (fresh.outs a) (none_outs a);
-            kills = holds_no_kill (kill_of w.core a) (killed_of (site_of w) a) (slot_of (slice_get w.kills a)) (fresh.kills a) left (none_kills a);
+            call = call_fits_none a (call_of (state_of w.world.core.history) a) call;
+            outs = holds_none (out_of w.world.core a) (call_of (state_of w.world.core.history) a) (slot_of (slice_get w.outs a)) (fresh.outs a) (none_outs a);
+            kills = holds_no_kill (kill_of w.world.core a) (killed_of (site_of w) a) (slot_of (slice_get w.kills a)) (fresh.kills a) left (none_kills a);
             suits = subst S (sym gone) (ap (λ (s : State). torn_by s a) now ∙ start_torn a);
           };
     }

@@ -1,45 +1,40 @@
 -- What the events of a teardown are heard as, and what they leave of the actor's part.
-use Rattle.std.proofs.Common.{◌≡◌, ℕ, ◌<◌, Bool, true, false, List, [], ◌∷◌, ◌++◌, Option, Some, None, length, slice_get, refl, ap, sym, ◌∙◌, subst, arith, inl, inr, ⊎_elim}
-use Rattle.std.specs.Prelude.{◌≢◌, ◌==◌, ◌&&◌, ◌||◌, find, if◌then◌else◌, reverse}
+use Rattle.std.proofs.Common.{◌≡◌, ℕ, Bool, true, false, List, [], ◌∷◌, ◌++◌, Option, Some, None, refl, ap, sym, ◌∙◌, subst, arith, inl, inr, ⊎_elim}
+use Rattle.std.specs.Prelude.{◌≢◌, ◌==◌, ◌&&◌, if◌then◌else◌, reverse}
 use Rattle.std.proofs.lemmas.Bool.{eqb-true, eq-eqb, ne_eqb}
 use Rattle.std.proofs.lemmas.Bool.Decides.{eqb_tells}
 use Rattle.uv_num.specs.declared.errno.Errno.TheVariants.{BadF}
 use Rattle.uv_num.specs.declared.kind.Kind.{Kind}
 use Rattle.uv_num.specs.declared.limits.TheConstants.{DRIVER}
-use Rattle.uv_pool.specs.declared.deed.Life.{Life}
-use Rattle.uv_pool.specs.declared.plain.PlainDeed.{PlainDeed}
-use Rattle.uv_machine.specs.declared.call.InFlight.{InFlight}
-use Rattle.uv_machine.specs.declared.entry.Entry.{Entry}
-use Rattle.uv_machine.specs.declared.entry.Entry.TheVariants.{Tear, Kill, Gone, Dissociated, Closed}
+use Rattle.uv_machine.specs.declared.entry.Entry.TheVariants.{Tear, Dissociated, Closed}
+use Rattle.uv_machine.specs.declared.entry.Entry.TheVariants as entry
 use Rattle.uv_machine.specs.declared.file.FilePhase.{FilePhase}
 use Rattle.uv_machine.specs.declared.file.FilePhase.TheVariants as file
 use Rattle.uv_machine.specs.declared.object.Object.{Object}
 use Rattle.uv_machine.specs.declared.state.State.{State}
 use Rattle.uv_machine.specs.Effects.{gone_from}
-use Rattle.uv_machine.specs.Histories.{IsLegal, after, state_of}
-use Rattle.uv_machine.specs.Laws.{is_of, moves}
-use Rattle.uv_machine.specs.Objects.{has_id, in_file}
-use Rattle.uv_machine.specs.States.{call_of, phase_of, object_with, newest_free, can_go}
+use Rattle.uv_machine.specs.Histories.{after, state_of}
+use Rattle.uv_machine.specs.Objects.{in_file}
+use Rattle.uv_machine.specs.States.{phase_of, newest_free, can_go}
 use Rattle.uv_machine.proofs.Members.{Passes-find}
-use Rattle.uv_graph.specs.declared.out.Out.{Out}
 use Rattle.uv_graph.specs.declared.out.Own.{Own}
 use Rattle.uv_graph.specs.declared.told.Torn.{Torn}
 use Rattle.uv_graph.specs.declared.told.Torn.TheVariants as torn
-use Rattle.uv_graph.specs.Kept.{Kept, out_of, kill_of, the_out}
-use Rattle.uv_graph.specs.Owns.{is_torn_by, own_of}
-use Rattle.uv_graph.specs.Seats.{slot_of}
+use Rattle.uv_graph.specs.Calls.{calls_on}
+use Rattle.uv_graph.specs.Owns.{is_torn_by}
 use Rattle.uv_graph.specs.Turns.{close_of, last_entry}
 use Rattle.uv_model.specs.declared.left.Left.{Left}
 use Rattle.uv_model.specs.Standing.{left_of}
-use Rattle.uv_run.specs.declared.flight.Killed.{Killed}
+use Rattle.uv_world.specs.declared.tearing.Turn.{Turn}
+use Rattle.uv_world.specs.declared.tearing.Turn.TheVariants as turn
+use Rattle.uv_world.specs.Stages.{Stage, stage_then}
+use Rattle.uv_world.specs.Tearing.{StageTurn, stage_killed, stage_swept}
 use Rattle.uv_run.specs.declared.flight.Teardown.{Teardown}
 use Rattle.uv_run.specs.declared.flight.Teardown.TheVariants.{Closing, Unplugging}
 use Rattle.uv_run.specs.declared.heard.Event.TheVariants as event
-use Rattle.uv_run.specs.declared.world.World.{World}
-use Rattle.uv_run.specs.Site.{Site, Turned, close_turn, goes_on, killed_of, last_of, no_close, tear_turn, teardown_of, torn_by, torn_turn, kill_of_object}
-use Rattle.uv_run.specs.Sound.{CallIsSound, FitsIn, HoldsKill, HoldsOut, IsSound, TeardownFits, TearsOnly, site_of}
-use Rattle.uv_run.proofs.CallSounds.{state_more}
-use Rattle.uv_run.proofs.MachineLaws.{calls_stand_apart, files_stand_apart}
+use Rattle.uv_run.specs.Site.{Site, Turned, close_turn, goes_on, last_of, no_close, tear_turn, torn_by, torn_turn}
+use Rattle.uv_run.specs.Sound.{TeardownFits, TearsOnly}
+use Rattle.uv_run.proofs.MachineLaws.{files_stand_apart}
 use Rattle.uv_run.proofs.Tears.{torn_some, torn_none}
 
 -- A close.
@@ -88,52 +83,7 @@ tear_cases m a f (Some g) none e =
 pub tear_only : (m : State) (a f : ℕ) → torn_by m a ≡ None → TearsOnly (torn_by (after m (Tear f a)) a) f
 tear_only m a f none = tear_cases m a f (torn_by (after m (Tear f a)) a) none refl
 
--- Entries that are no call's.
-
-pub entry_fits :
-    (old new : World) (a : ℕ) (e : Entry) → IsSound old → is_of a e ≡ false → new.core.history ≡ old.core.history ++ e ∷ [] → new.core.outs ≡ old.core.outs → new.outs ≡ old.outs
-    → HoldsKill (kill_of new.core a) (killed_of (site_of new) a) (slot_of (slice_get new.kills a)) → TeardownFits (own_of new.core a) (teardown_of (site_of new) a) → FitsIn new a
-entry_fits old new a e sound not_of more outs held kills suits =
-    let same : call_of (state_of new.core.history) a ≡ call_of (state_of old.core.history) a =
-    ap (λ (s : State). call_of s a) (state_more old.core.history new.core.history e more) ∙ calls_stand_apart (state_of old.core.history) e a not_of
-    in
-    let P : Option InFlight → Type 0 = λ v. CallIsSound a v in
-    let Q1 : Option InFlight → Type 0 = λ v. HoldsOut (out_of new.core a) v (slot_of (slice_get new.outs a)) in
-    let Q2 : Option Out → Type 0 = λ v. HoldsOut v (call_of (state_of old.core.history) a) (slot_of (slice_get new.outs a)) in
-    let Q3 : Option PlainDeed → Type 0 = λ v. HoldsOut (out_of old.core a) (call_of (state_of old.core.history) a) v in
-    record {
-      call = subst P (sym same) (sound.fits a).call;
-      outs =
-          subst Q1 (sym same)
-          (subst Q2 (ap (λ (v : List (Option Out)). the_out (slice_get v a)) (sym outs))
-          (subst Q3 (ap (λ (v : List (Option PlainDeed)). slot_of (slice_get v a)) (sym held)) (sound.fits a).outs));
-      kills = kills;
-      suits = suits;
-    }
-
--- a kill is held as it was
-pub kill_held :
-    (old new : World) (a : ℕ) → new.core.kills ≡ old.core.kills → new.killed ≡ old.killed → new.kills ≡ old.kills → FitsIn old a
-    → HoldsKill (kill_of new.core a) (killed_of (site_of new) a) (slot_of (slice_get new.kills a))
-kill_held old new a kills killed held fits =
-    let K1 : Option Out → Type 0 = λ u. HoldsKill u (killed_of (site_of new) a) (slot_of (slice_get new.kills a)) in
-    let K2 : Option Killed → Type 0 = λ v. HoldsKill (kill_of old.core a) v (slot_of (slice_get new.kills a)) in
-    let K3 : Option PlainDeed → Type 0 = λ d. HoldsKill (kill_of old.core a) (killed_of (site_of old) a) d in
-    subst K1 (ap (λ (v : List (Option Out)). the_out (slice_get v a)) (sym kills))
-    (subst K2 (ap (λ (v : List (Option Killed)). slot_of (slice_get v a)) (sym killed))
-    (subst K3 (ap (λ (v : List (Option PlainDeed)). slot_of (slice_get v a)) (sym held)) fits.kills))
-
--- no kill is out where none is kept
-pub kill_none : (out : Option Out) (x : Option Killed) (slot : Option PlainDeed) → HoldsKill out x slot → x ≡ None → out ≡ None
-kill_none None x slot holds none = refl
-kill_none (Some out) None slot holds none = absurd holds
-kill_none (Some out) (Some x) None holds none = absurd holds
-kill_none (Some out) (Some x) (Some deed) holds none = absurd (cc)
-
 -- Objects that are found.
-
-pub found_id : (m : State) (o : ℕ) (x : Object) → object_with m o ≡ Some x → x.id ≡ o
-found_id m o x e = eqb-true x.id o (Passes-find (has_id o) x m.objects e).test
 
 first_true : (p q : Bool) → (p && q) ≡ true → p ≡ true
 first_true true q e = refl
@@ -160,3 +110,73 @@ last_is o f (Unplugging d) suits = ap (λ (v : Bool). if v then Dissociated f el
 pub plugged_gone : (m : State) (o : ℕ) (slot : Option Object) → (gone_from m o slot).plugged ≡ m.plugged
 plugged_gone m o None = refl
 plugged_gone m o (Some x) = refl
+
+-- What a sweep of the world came to.
+
+-- a quiet file lost its newest object that nothing uses
+pub record SweptKill (s u : Stage) (f o : ℕ) (k : Kind) (n : ℕ) : Type 0 where
+  pub item : Object
+  pub quiet : (calls_on (state_of s.history) f == 0) ≡ true
+  pub free : newest_free (state_of s.history) f ≡ Some item
+  pub id : item.id ≡ o
+  pub kind : item.kind ≡ k
+  pub handle : item.handle ≡ n
+  pub stage : u ≡ stage_then s (entry.Kill item.id)
+
+-- a quiet file lost its last
+pub record SweptDone (s u : Stage) (a f : ℕ) : Type 0 where
+  pub quiet : (calls_on (state_of s.history) f == 0) ≡ true
+  pub none : newest_free (state_of s.history) f ≡ None
+  pub stage : u ≡ stage_then s (last_entry a f)
+
+-- calls on the file are in flight
+pub record SweptNot (s u : Stage) (f n : ℕ) : Type 0 where
+  pub some : (calls_on (state_of s.history) f == 0) ≡ false
+  pub calls : n ≡ calls_on (state_of s.history) f
+  pub stage : u ≡ s
+
+stage_in : (s u : Stage) (x y : Turn) → record { stage = u; turn = x } ≡ record { stage = s; turn = y } → u ≡ s
+stage_in s u x y e = ap (λ (t : StageTurn). t.stage) e
+
+turn_in : (s u : Stage) (x y : Turn) → record { stage = u; turn = x } ≡ record { stage = s; turn = y } → x ≡ y
+turn_in s u x y e = ap (λ (t : StageTurn). t.turn) e
+
+kill_at : (s u : Stage) (a f o : ℕ) (k : Kind) (n : ℕ) (x : Option Object) → (calls_on (state_of s.history) f == 0) ≡ true → newest_free (state_of s.history) f ≡ x → record { stage = u; turn = turn.Killed o k n } ≡ stage_killed s a f x → SweptKill s u f o k n
+kill_at s u a f o k n None quiet free e = let t = turn_in (stage_then s (last_entry a f)) u (turn.Killed o k n) turn.Done e in absurd (cc)
+kill_at s u a f o k n (Some x) quiet free e =
+    let t = turn_in (stage_then s (entry.Kill x.id)) u (turn.Killed o k n) (turn.Killed x.id x.kind x.handle) e in
+    record { item = x; quiet = quiet; free = free; id = cc; kind = cc; handle = cc; stage = stage_in (stage_then s (entry.Kill x.id)) u (turn.Killed o k n) (turn.Killed x.id x.kind x.handle) e }
+
+kill_if : (s u : Stage) (a f o : ℕ) (k : Kind) (n : ℕ) (v : Bool) → (calls_on (state_of s.history) f == 0) ≡ v
+    → record { stage = u; turn = turn.Killed o k n } ≡ (if v then stage_killed s a f (newest_free (state_of s.history) f) else record { stage = s; turn = turn.NotYet (calls_on (state_of s.history) f) }) → SweptKill s u f o k n
+kill_if s u a f o k n true is e = kill_at s u a f o k n (newest_free (state_of s.history) f) is refl e
+kill_if s u a f o k n false is e = let t = turn_in s u (turn.Killed o k n) (turn.NotYet (calls_on (state_of s.history) f)) e in absurd (cc)
+
+pub swept_kill : (s u : Stage) (a f o : ℕ) (k : Kind) (n : ℕ) → record { stage = u; turn = turn.Killed o k n } ≡ stage_swept s a f → SweptKill s u f o k n
+swept_kill s u a f o k n e = kill_if s u a f o k n (calls_on (state_of s.history) f == 0) refl e
+
+done_at : (s u : Stage) (a f : ℕ) (x : Option Object) → (calls_on (state_of s.history) f == 0) ≡ true → newest_free (state_of s.history) f ≡ x → record { stage = u; turn = turn.Done } ≡ stage_killed s a f x → SweptDone s u a f
+done_at s u a f None quiet free e = record { quiet = quiet; none = free; stage = stage_in (stage_then s (last_entry a f)) u turn.Done turn.Done e }
+done_at s u a f (Some x) quiet free e = let t = turn_in (stage_then s (entry.Kill x.id)) u turn.Done (turn.Killed x.id x.kind x.handle) e in absurd (cc)
+
+done_if : (s u : Stage) (a f : ℕ) (v : Bool) → (calls_on (state_of s.history) f == 0) ≡ v
+    → record { stage = u; turn = turn.Done } ≡ (if v then stage_killed s a f (newest_free (state_of s.history) f) else record { stage = s; turn = turn.NotYet (calls_on (state_of s.history) f) }) → SweptDone s u a f
+done_if s u a f true is e = done_at s u a f (newest_free (state_of s.history) f) is refl e
+done_if s u a f false is e = let t = turn_in s u turn.Done (turn.NotYet (calls_on (state_of s.history) f)) e in absurd (cc)
+
+pub swept_done : (s u : Stage) (a f : ℕ) → record { stage = u; turn = turn.Done } ≡ stage_swept s a f → SweptDone s u a f
+swept_done s u a f e = done_if s u a f (calls_on (state_of s.history) f == 0) refl e
+
+not_at : (s u : Stage) (a f n : ℕ) (x : Option Object) → record { stage = u; turn = turn.NotYet n } ≡ stage_killed s a f x → ⊥
+not_at s u a f n None e = let t = turn_in (stage_then s (last_entry a f)) u (turn.NotYet n) turn.Done e in cc
+not_at s u a f n (Some x) e = let t = turn_in (stage_then s (entry.Kill x.id)) u (turn.NotYet n) (turn.Killed x.id x.kind x.handle) e in cc
+
+not_if : (s u : Stage) (a f n : ℕ) (v : Bool) → (calls_on (state_of s.history) f == 0) ≡ v
+    → record { stage = u; turn = turn.NotYet n } ≡ (if v then stage_killed s a f (newest_free (state_of s.history) f) else record { stage = s; turn = turn.NotYet (calls_on (state_of s.history) f) }) → SweptNot s u f n
+not_if s u a f n true is e = absurd (not_at s u a f n (newest_free (state_of s.history) f) e)
+not_if s u a f n false is e =
+    let t = turn_in s u (turn.NotYet n) (turn.NotYet (calls_on (state_of s.history) f)) e in
+    record { some = is; calls = cc; stage = stage_in s u (turn.NotYet n) (turn.NotYet (calls_on (state_of s.history) f)) e }
+
+pub swept_not : (s u : Stage) (a f n : ℕ) → record { stage = u; turn = turn.NotYet n } ≡ stage_swept s a f → SweptNot s u f n
+swept_not s u a f n e = not_if s u a f n (calls_on (state_of s.history) f == 0) refl e

@@ -14,7 +14,7 @@ use Rattle.uv_run.specs.declared.flight.Teardown.{Teardown}
 use Rattle.uv_run.specs.declared.heard.Event.{Event}
 use Rattle.uv_run.specs.declared.heard.Event.TheVariants as event
 use Rattle.uv_run.specs.declared.heard.Heard.{Heard}
-use Rattle.uv_run.specs.declared.world.World.{World}
+use Rattle.uv_run.specs.declared.flights.Flights.{Flights}
 use Rattle.uv_run.specs.Progress.{AdvancesBy, AllStuck, IsStuck, Lowers, LowersOn, LowersOne, StuckOn, ahead}
 use Rattle.uv_run.specs.Runs.{StaysIdle, StaysSound}
 use Rattle.uv_run.specs.Site.{Site, Turned, event_of, is_busy, silence, teardown_of}
@@ -25,13 +25,13 @@ use Rattle.uv_run.proofs.Waits.{not_all_stuck}
 
 -- Who has nothing in flight keeps nothing in flight.
 
-idle_other : (a : ℕ) (old new : World) → Moved a old new → (b : ℕ) → b ≢ a → is_busy (site_of old) b ≡ false → is_busy (site_of new) b ≡ false
+idle_other : (a : ℕ) (old new : Flights) → Moved a old new → (b : ℕ) → b ≢ a → is_busy (site_of old) b ≡ false → is_busy (site_of new) b ≡ false
 idle_other a old new m b ne idle =
-    let call : call_of (state_of new.core.history) b ≡ call_of (state_of old.core.history) b = ap (λ (o : Own). o.call) (m.keep b ne) in
+    let call : call_of (state_of new.world.core.history) b ≡ call_of (state_of old.world.core.history) b = ap (λ (o : Own). o.call) (m.keep b ne) in
     ap (λ (v : Option InFlight). not (is_none v) || not (is_none (teardown_of (site_of new) b))) call
-    ∙ ap (λ (v : Option Teardown). not (is_none (call_of (state_of old.core.history) b)) || not (is_none v)) (m.stay.teardowns b ne) ∙ idle
+    ∙ ap (λ (v : Option Teardown). not (is_none (call_of (state_of old.world.core.history) b)) || not (is_none v)) (m.stay.teardowns b ne) ∙ idle
 
-pub event_stays : (a : ℕ) (old new : World) (h : Heard) → (let t : Turned = record { site = site_of new; heard = h } in t) ≡ event_of (site_of old) a → Moved a old new → StaysSound old new
+pub event_stays : (a : ℕ) (old new : Flights) (h : Heard) → (let t : Turned = record { site = site_of new; heard = h } in t) ≡ event_of (site_of old) a → Moved a old new → StaysSound old new
 event_stays a old new h turned m = record {
   sound = m.sound;
   spares = m.spares;
@@ -92,7 +92,7 @@ all_stuck_at s s' a f same all =
     let P : Site → Type 0 = λ v. AllStuck v a f ACTORS in
     subst P same all
 
-module _ (old : World) (sound : IsSound old) (once : TearsOnce (state_of old.core.history)) (a : ℕ) (busy : is_busy (site_of old) a ≡ true) where
+module _ (old : Flights) (sound : IsSound old) (once : TearsOnce (state_of old.world.core.history)) (a : ℕ) (busy : is_busy (site_of old) a ≡ true) where
   waited : (e : Event) (f : ℕ) (s1 s2 : Site) → IsStuck (site_of old) a e → awaited e ≡ Some f → s1 ≡ site_of old → Lowers s1 s2 a f ACTORS → ahead s2 < ahead (site_of old)
   waited e f s1 s2 stuck is same (inl less) = let k : ahead s1 ≡ ahead (site_of old) = ap ahead same in omega (arith, less, k)
   waited e f s1 s2 stuck is same (inr all) = absurd (not_all_stuck old sound a f e once stuck is (all_stuck_at (site_of old) s1 a f same all.1))

@@ -18,7 +18,7 @@ use Rattle.uv_run.specs.declared.flight.Teardown.{Teardown}
 use Rattle.uv_run.specs.declared.flight.Teardown.TheVariants.{Closing, Unplugging}
 use Rattle.uv_run.specs.declared.heard.Event.{Event}
 use Rattle.uv_run.specs.declared.heard.Event.TheVariants as event
-use Rattle.uv_run.specs.declared.world.World.{World}
+use Rattle.uv_run.specs.declared.flights.Flights.{Flights}
 use Rattle.uv_run.specs.Progress.{AllStuck, IsStuck, StuckOn, WaitsForCalls, WaitsForTear}
 use Rattle.uv_run.specs.Site.{Site, is_busy, state_at, teardown_of, torn_by}
 use Rattle.uv_run.specs.Sound.{CallIsSound, FitsIn, IsSound, TeardownFits, TearsOnly, site_of}
@@ -71,34 +71,34 @@ or_second : (p q : Bool) → q ≡ true → (p || q) ≡ true
 or_second true q e = refl
 or_second false q e = e
 
-module _ (w : World) (sound : IsSound w) where
-  client_call : (b : ℕ) (call : InFlight) → call_of (state_of w.core.history) b ≡ Some call → (1 ≤ b) × (b ≤ CLIENTS)
+module _ (w : Flights) (sound : IsSound w) where
+  client_call : (b : ℕ) (call : InFlight) → call_of (state_of w.world.core.history) b ≡ Some call → (1 ≤ b) × (b ≤ CLIENTS)
   client_call b call is =
       let P : Option InFlight → Type 0 = λ v. CallIsSound b v in
       (subst P is (sound.fits b).call).0
 
   -- not all are stuck on a file that has calls
-  no_calls : (a f : ℕ) → call_of (state_of w.core.history) a ≡ None → AllStuck (site_of w) a f ACTORS → (calls_on (state_of w.core.history) f == 0) ≡ false → ⊥
+  no_calls : (a f : ℕ) → call_of (state_of w.world.core.history) a ≡ None → AllStuck (site_of w) a f ACTORS → (calls_on (state_of w.world.core.history) f == 0) ≡ false → ⊥
   no_calls a f idle all some =
-      let one = someone f (state_of w.core.history).calls some in
+      let one = someone f (state_of w.world.core.history).calls some in
       let client = client_call one.actor one.call one.there in
       let apart : one.actor ≢ a =
-      λ e. (let P : ℕ → Type 0 = λ v. call_of (state_of w.core.history) v ≡ Some one.call in
+      λ e. (let P : ℕ → Type 0 = λ v. call_of (state_of w.world.core.history) v ≡ Some one.call in
       let k : None ≡ Some one.call = sym idle ∙ subst P e one.there in
       cc)
       in
-      let on : is_on (site_of w) f one.actor ≡ true = or_first (is_call_on f (call_of (state_of w.core.history) one.actor)) _ (ap (is_call_on f) one.there ∙ one.on) in
+      let on : is_on (site_of w) f one.actor ≡ true = or_first (is_call_on f (call_of (state_of w.world.core.history) one.actor)) _ (ap (is_call_on f) one.there ∙ one.on) in
       let low : one.actor ≤ ACTORS = omega (arith, client.1) in
       let stuck = all one.actor client.0 low apart on in
       stuck_call (site_of w) one.actor one.call stuck.event one.there stuck.stuck
 
   -- What is torn by an actor is what its teardown is on.
 
-  removing_is : (f b : ℕ) → phase_of (state_of w.core.history) f ≡ file.Tearing b → b ≡ DRIVER → is_removing (phase_of (state_of w.core.history) f) ≡ true
+  removing_is : (f b : ℕ) → phase_of (state_of w.world.core.history) f ≡ file.Tearing b → b ≡ DRIVER → is_removing (phase_of (state_of w.world.core.history) f) ≡ true
   removing_is f b is driver = ap is_removing is ∙ eq-eqb b DRIVER driver
 
   on_teardown :
-      (b f : ℕ) (t : Option Teardown) → torn_by (state_of w.core.history) b ≡ Some f → phase_of (state_of w.core.history) f ≡ file.Tearing b → TeardownFits (own_of w.core b) t
+      (b f : ℕ) (t : Option Teardown) → torn_by (state_of w.world.core.history) b ≡ Some f → phase_of (state_of w.world.core.history) f ≡ file.Tearing b → TeardownFits (own_of w.world.core b) t
       → IsActor b × (is_teardown_on (site_of w) f t ≡ true)
   on_teardown b f None tears is suits = let k : None ≡ Some f = sym suits ∙ tears in absurd (cc)
   on_teardown b f (Some (Closing g)) tears is suits =
@@ -117,9 +117,9 @@ module _ (w : World) (sound : IsSound w) where
 
   -- an actor that tears a file can't be stuck without calls on it
   tearer_stuck :
-      (a b f : ℕ) (e : Event) → call_of (state_of w.core.history) a ≡ None → AllStuck (site_of w) a f ACTORS → torn_by (state_of w.core.history) b ≡ Some f → is_teardown_on (site_of w) f (teardown_of (site_of w) b) ≡ true
+      (a b f : ℕ) (e : Event) → call_of (state_of w.world.core.history) a ≡ None → AllStuck (site_of w) a f ACTORS → torn_by (state_of w.world.core.history) b ≡ Some f → is_teardown_on (site_of w) f (teardown_of (site_of w) b) ≡ true
       → IsStuck (site_of w) b e → ⊥
-  tearer_stuck a b f event.Silent idle all tears on stuck = silent_tears f (call_of (state_of w.core.history) b) (teardown_of (site_of w) b) on stuck
+  tearer_stuck a b f event.Silent idle all tears on stuck = silent_tears f (call_of (state_of w.world.core.history) b) (teardown_of (site_of w) b) on stuck
   tearer_stuck a b f event.Began idle all tears on stuck = absurd stuck
   tearer_stuck a b f (event.Stepped word refusal) idle all tears on stuck = absurd stuck
   tearer_stuck a b f (event.Torn g) idle all tears on stuck = absurd stuck
@@ -129,21 +129,21 @@ module _ (w : World) (sound : IsSound w) where
   tearer_stuck a b f (event.Closes g) idle all tears on stuck = absurd stuck
   tearer_stuck a b f (event.NotYet g n) idle all tears on stuck =
       let same : g ≡ f = (let k : Some g ≡ Some f = sym stuck.tears ∙ tears in cc) in
-      let P : ℕ → Type 0 = λ v. (calls_on (state_of w.core.history) v == 0) ≡ false in
+      let P : ℕ → Type 0 = λ v. (calls_on (state_of w.world.core.history) v == 0) ≡ false in
       no_calls a f idle all (subst P same stuck.calls)
   tearer_stuck a b f (event.TornBy g by) idle all tears on stuck = let k : None ≡ Some f = sym stuck.none ∙ tears in absurd (cc)
 
-  torn_of : TearsOnce (state_of w.core.history) → (f b : ℕ) (t : Option ℕ) → phase_of (state_of w.core.history) f ≡ file.Tearing b → torn_by (state_of w.core.history) b ≡ t → t ≡ Some f
+  torn_of : TearsOnce (state_of w.world.core.history) → (f b : ℕ) (t : Option ℕ) → phase_of (state_of w.world.core.history) f ≡ file.Tearing b → torn_by (state_of w.world.core.history) b ≡ t → t ≡ Some f
   torn_of once f b None is tears =
-      let yes : is_torn_by b (phase_of (state_of w.core.history) f) ≡ true = ap (is_torn_by b) is ∙ eq-eqb b b refl in
-      let no : is_torn_by b (phase_of (state_of w.core.history) f) ≡ false = torn_none (state_of w.core.history) b tears f in
+      let yes : is_torn_by b (phase_of (state_of w.world.core.history) f) ≡ true = ap (is_torn_by b) is ∙ eq-eqb b b refl in
+      let no : is_torn_by b (phase_of (state_of w.world.core.history) f) ≡ false = torn_none (state_of w.world.core.history) b tears f in
       absurd (cc)
   torn_of once f b (Some g) is tears =
-      let other : phase_of (state_of w.core.history) g ≡ file.Tearing b = tearing_is b (phase_of (state_of w.core.history) g) (torn_some (state_of w.core.history) b g tears) in
+      let other : phase_of (state_of w.world.core.history) g ≡ file.Tearing b = tearing_is b (phase_of (state_of w.world.core.history) g) (torn_some (state_of w.world.core.history) b g tears) in
       ap (λ (v : ℕ). Some v) (once b g f other is)
 
   -- somebody who is waited for can go on
-  pub not_all_stuck : (a f : ℕ) (e : Event) → TearsOnce (state_of w.core.history) → IsStuck (site_of w) a e → awaited e ≡ Some f → AllStuck (site_of w) a f ACTORS → ⊥
+  pub not_all_stuck : (a f : ℕ) (e : Event) → TearsOnce (state_of w.world.core.history) → IsStuck (site_of w) a e → awaited e ≡ Some f → AllStuck (site_of w) a f ACTORS → ⊥
   not_all_stuck a f event.Silent once stuck is all = absurd (cc)
   not_all_stuck a f event.Began once stuck is all = absurd stuck
   not_all_stuck a f (event.Stepped word refusal) once stuck is all = absurd stuck
@@ -153,14 +153,14 @@ module _ (w : World) (sound : IsSound w) where
   not_all_stuck a f (event.Dissociates g) once stuck is all = absurd stuck
   not_all_stuck a f (event.Closes g) once stuck is all = absurd stuck
   not_all_stuck a f (event.NotYet g n) once stuck is all =
-      let P : ℕ → Type 0 = λ v. (calls_on (state_of w.core.history) v == 0) ≡ false in
+      let P : ℕ → Type 0 = λ v. (calls_on (state_of w.world.core.history) v == 0) ≡ false in
       no_calls a f stuck.call all (subst P (let k : g ≡ f = cc in k) stuck.calls)
   not_all_stuck a f (event.TornBy g by) once stuck is all =
       let same : g ≡ f = cc in
-      let P : ℕ → Type 0 = λ v. phase_of (state_of w.core.history) v ≡ file.Tearing by in
-      let torn : phase_of (state_of w.core.history) f ≡ file.Tearing by = subst P same stuck.torn in
-      let tears : torn_by (state_of w.core.history) by ≡ Some f = torn_of once f by (torn_by (state_of w.core.history) by) torn refl in
+      let P : ℕ → Type 0 = λ v. phase_of (state_of w.world.core.history) v ≡ file.Tearing by in
+      let torn : phase_of (state_of w.world.core.history) f ≡ file.Tearing by = subst P same stuck.torn in
+      let tears : torn_by (state_of w.world.core.history) by ≡ Some f = torn_of once f by (torn_by (state_of w.world.core.history) by) torn refl in
       let on = on_teardown by f (teardown_of (site_of w) by) tears torn (sound.fits by).suits in
-      let busy : is_on (site_of w) f by ≡ true = or_second (is_call_on f (call_of (state_of w.core.history) by)) _ on.1 in
+      let busy : is_on (site_of w) f by ≡ true = or_second (is_call_on f (call_of (state_of w.world.core.history) by)) _ on.1 in
       let other = all by on.0.0 on.0.1 stuck.other busy in
       tearer_stuck a by f other.event stuck.call all tears on.1 other.stuck

@@ -7,7 +7,6 @@ pub mod Laws
 pub mod Lines
 pub mod Marks
 pub mod Outcome
-pub mod Plants
 pub mod Progress
 pub mod Ranges
 pub mod Runs

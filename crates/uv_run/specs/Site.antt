@@ -1,4 +1,4 @@
--- The machine with what is in flight at it: what one event makes of them. Nothing here knows of lines, names or texts.
+-- The machine, what its objects hold, and the teardowns in flight at it: what one event makes of them. Nothing here knows of lines, names or texts.
 use Rattle.std.specs.Prelude.{ℕ, zero, suc, ◌≡◌, ◌++◌, Bool, true, false, not, ◌&&◌, ◌||◌, ◌==◌, List, [], ◌∷◌, Option, None, Some, Result, Ok, Err, if◌then◌else◌, replicate, slice_get, is_none, position}
 use Rattle.std.specs.declared.alloc.AllocError.{AllocError}
 use Rattle.uv_num.specs.Place.{at_place}
@@ -19,6 +19,7 @@ use Rattle.uv_machine.specs.declared.entry.Entry.{Entry}
 use Rattle.uv_machine.specs.declared.entry.Entry.TheVariants as entry
 use Rattle.uv_machine.specs.declared.file.FilePhase.{FilePhase}
 use Rattle.uv_machine.specs.declared.file.FilePhase.TheVariants as file
+use Rattle.uv_machine.specs.declared.moves.Slot.TheVariants.{OfTeardown}
 use Rattle.uv_machine.specs.declared.object.Object.{Object}
 use Rattle.uv_machine.specs.declared.state.State.{State}
 use Rattle.uv_machine.specs.States.{call_of, phase_of, device_of, is_open, is_tearing, is_unplugged, newest_free}
@@ -33,6 +34,9 @@ use Rattle.uv_graph.specs.Slots.{put_slot}
 use Rattle.uv_graph.specs.Turns.{is_exit, step_entry}
 use Rattle.uv_model.specs.declared.left.Left.{Left}
 use Rattle.uv_model.specs.Standing.{left_of}
+use Rattle.uv_world.specs.Holdings.{Held, no_contents}
+use Rattle.uv_world.specs.Moving.{actions_in, held_after, held_in_slot}
+use Rattle.uv_world.specs.Stages.{Stage, stage_found, stage_kept}
 use Rattle.uv_run.specs.declared.flight.Killed.{Killed}
 use Rattle.uv_run.specs.declared.flight.Task.{Task}
 use Rattle.uv_run.specs.declared.flight.Task.TheVariants as task
@@ -44,30 +48,38 @@ use Rattle.uv_run.specs.declared.heard.Heard.{Heard}
 
 -- The site.
 
--- the history of the machine, whose state is its replay; by actor, the teardown in flight, and the object that it has taken out
--- of use and not yet released. The calls in flight are the machine's
+-- the history of the machine, whose state is its replay, and what all objects hold after it; by actor, the teardown in flight, and
+-- the object that it has taken out of use and not yet released. The calls in flight are the machine's
 pub record Site : Type 0 where
   pub history : List Entry
+  pub held : Held
   pub teardowns : List (Option Teardown)
   pub killed : List (Option Killed)
 
 unfoldable pub start_site : Site
-start_site = record { history = []; teardowns = replicate ACTOR_PLACES None; killed = replicate ACTOR_PLACES None }
+start_site = record { history = []; held = no_contents; teardowns = replicate ACTOR_PLACES None; killed = replicate ACTOR_PLACES None }
 
 abbrev pub state_at : Site → State
 state_at s = state_of s.history
 
+abbrev pub stage_at : Site → Stage
+stage_at s = record { history = s.history; held = s.held }
+
 -- each entry goes through this
 abbrev pub with_entry : Site → Entry → Site
-with_entry s e = record s { history = s.history ++ e ∷ [] }
+with_entry s e = record s { history = s.history ++ e ∷ []; held = held_after s.held (state_at s) e }
 
--- the state that an act finds: no line looks at one yet
+-- the state of a pair that the next step of an actor's call finds, if it looks at one
 abbrev pub found_of : Site → ℕ → Option QpState
-found_of s a = None
+found_of s a = stage_found (stage_at s) (call_of (state_at s) a)
 
--- what is kept of an object: nothing yet
+-- what is kept of the object that an actor's call has taken out of use
 abbrev pub kept_at : Site → ℕ → ℕ
-kept_at s a = 0
+kept_at s a = stage_kept (stage_at s) a
+
+-- what is kept of the object that the teardown of a file has taken out of use
+abbrev pub kept_in : Site → ℕ → ℕ
+kept_in s f = actions_in (held_in_slot s.held (OfTeardown f))
 
 abbrev pub teardown_of : Site → ℕ → Option Teardown
 teardown_of s a = slot_of (slice_get s.teardowns a)
@@ -181,13 +193,13 @@ swept_turn s a f t =
     then kill_turn s a f t (newest_free (state_at s) f)
     else record { site = s; heard = goes_on (event.NotYet f (calls_on (state_at s) f)) }
 
-abbrev pub release_turn : Site → ℕ → Killed → Turned
-release_turn s a x = record { site = with_killed (with_entry s (entry.Gone x.object (kept_at s x.object))) a None; heard = goes_on (event.Went x.left) }
+abbrev pub release_turn : Site → ℕ → ℕ → Killed → Turned
+release_turn s a f x = record { site = with_killed (with_entry s (entry.Gone x.object (kept_in s f))) a None; heard = goes_on (event.Went x.left) }
 
 -- what was taken out of use is released before the sweep goes on
 abbrev pub sweep_turn : Site → ℕ → ℕ → Teardown → Option Killed → Turned
 sweep_turn s a f t None = swept_turn s a f t
-sweep_turn s a f t (Some x) = release_turn s a x
+sweep_turn s a f t (Some x) = release_turn s a f x
 
 abbrev pub tear_turn : Site → ℕ → ℕ → Turned
 tear_turn s a f = record { site = with_entry s (entry.Tear f a); heard = goes_on (event.Torn f) }

@@ -1,30 +1,30 @@
 //! What actors begin at the site.
 
-ghost use Rattle.std.specs.Prelude.{◌≡◌, ◌≢◌, ◌≤◌, ◌<◌, ◌+◌, false};
-ghost use Rattle.uv_num.specs.Request.{role_of};
+ghost use Rattle.std.specs.Prelude.{◌≡◌, ◌≢◌, ◌≤◌, ◌<◌, ◌+◌, false, true};
+ghost use Rattle.uv_num.specs.Ranges.{is_in_range};
 ghost use Rattle.uv_num.specs.declared.limits.TheConstants.{DEVICES, DRIVER, FILES};
+ghost use Rattle.uv_machine.specs.Effects.{refusal_in};
 ghost use Rattle.uv_machine.specs.Histories.{IsActor};
-ghost use Rattle.uv_graph.specs.Conditions.{IsClient, role_finds};
+ghost use Rattle.uv_graph.specs.Conditions.{IsClient};
 ghost use Rattle.uv_run.specs.Ranges.{IsInReach};
-ghost use Rattle.uv_run.specs.Site.{Begins, EntersCall, OpensFile, begun, begun_event, closes, is_busy, unplugs};
+ghost use Rattle.uv_run.specs.Site.{Begins, EntersCall, OpensFile, begun, begun_event, closes, entered, is_busy, unplugs};
 ghost use Rattle.uv_run.specs.Sound.{site_of, HasSpares, IsSound, Moved};
 ghost use Rattle.uv_run.specs.Sound.{Began};
-ghost use Rattle.uv_run.specs.Steps.{answer_of};
 
 use crate::flight::{Task, Teardown};
 use crate::heard::{Event, Heard};
-use crate::world::{World, ends_with, goes_on};
+use crate::flights::{Flights, ends_with, goes_on};
 use std::alloc::Global;
 use uv_machine::Answer;
-use uv_num::{DRIVER, Errno, Put, Request, change_at};
+use uv_num::{Put, Request, change_at};
 
-/// The answer of an open or of an unplug.
-fn answer_of(taken: Result<(), Errno>) -> Answer
-    ensures { result ≡ answer_of taken }
+/// What is heard of a call that was to enter, by its answer.
+fn entered(answer: Answer) -> Heard
+    ensures { result ≡ entered answer (refusal_in answer) }
 {
-    match taken {
-        Ok(()) => Answer::Ok,
-        Err(errno) => Answer::Refused(errno),
+    match answer.refusal() {
+        None => goes_on(Event::Began),
+        Some(_) => ends_with(Event::Silent, answer),
     }
 }
 
@@ -46,12 +46,12 @@ fn begun_event(event: Event) -> Event
     }
 }
 
-impl World {
+impl Flights {
     /// Begins what an actor does. Want of memory is answered at an open and at a call alone.
     pub fn begin(&mut self, alloc: Global, actor: u32, task: Task) -> Heard
         requires range { IsInReach actor task }
         requires free { is_busy (site_of self.old) actor ≡ false }
-        requires room { HasSpares 1 self.old.core }
+        requires room { HasSpares 1 self.old.world.core }
         requires sound { IsSound self.old }
         ensures begins { Begins (site_of self.old) actor task (record { site = site_of self.new; heard = result }) }
         ensures began { Began actor self.old self.new }
@@ -69,29 +69,27 @@ impl World {
         requires file { file < FILES }
         requires device { device < DEVICES }
         requires free { is_busy (site_of self.old) actor ≡ false }
-        requires room { HasSpares 1 self.old.core }
+        requires room { HasSpares 1 self.old.world.core }
         requires sound { IsSound self.old }
         ensures opens { OpensFile (site_of self.old) actor file device (record { site = site_of self.new; heard = result }) }
         ensures began { Began actor self.old self.new }
     {
-        let answer = self.core.open(alloc, actor, file, device);
-        ends_with(Event::Silent, answer_of(answer))
+        let answer = self.world.open(alloc, actor, file, device);
+        ends_with(Event::Silent, answer)
     }
 
     fn enter(&mut self, alloc: Global, actor: u32, file: u32, request: Request) -> Heard
         requires client { IsClient actor }
         requires file { file < FILES }
-        requires fits { role_finds (role_of request) ≡ false }
+        requires range { is_in_range request ≡ true }
         requires free { is_busy (site_of self.old) actor ≡ false }
-        requires room { HasSpares 1 self.old.core }
+        requires room { HasSpares 1 self.old.world.core }
         requires sound { IsSound self.old }
         ensures enters { EntersCall (site_of self.old) actor file request (record { site = site_of self.new; heard = result }) }
         ensures began { Began actor self.old self.new }
     {
-        match self.core.enter(alloc, actor, file, &request) {
-            Ok(()) => goes_on(Event::Began),
-            Err(errno) => ends_with(Event::Silent, Answer::Refused(errno)),
-        }
+        let answer = self.world.enter(alloc, actor, file, request);
+        entered(answer)
     }
 
     /// Begins a close. It takes no memory.
@@ -124,7 +122,7 @@ impl World {
         ensures unplugs { record { site = site_of self.new; heard = result } ≡ unplugs (site_of self.old) actor device }
         ensures moved { Moved actor self.old self.new }
     {
-        match self.core.unplug(device) {
+        match self.world.unplug(device) {
             Ok(()) => {
                 change_at(
                     &mut self.teardowns,

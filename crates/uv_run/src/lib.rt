@@ -6,8 +6,8 @@
 
 mod asked;
 mod beginning;
-mod deeds;
 mod flight;
+mod flights;
 mod heard;
 pub mod laws;
 mod lines;
@@ -25,7 +25,6 @@ mod tests;
 mod texts;
 mod top;
 mod words;
-mod world;
 
 pub use marked::{Marked, mark_steps};
 pub use outcome::Done;

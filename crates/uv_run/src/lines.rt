@@ -30,7 +30,7 @@ use uv_script::{Deed, Form, Line, Script};
 impl Run {
     fn set_begun(&mut self, actor: u32, line: u32)
         ensures stand { stand_of self.new ≡ with_begun (stand_of self.old) actor line }
-        ensures world { self.new.world ≡ self.old.world }
+        ensures flights { self.new.flights ≡ self.old.flights }
     {
         change_at(&mut self.begun, actor as usize, Put(line));
     }
@@ -44,14 +44,14 @@ impl Run {
         task: Task,
     ) -> Result<(), AllocError>
         requires range { IsInReach actor task }
-        requires free { is_busy (site_of self.old.world) actor ≡ false }
-        requires room { HasSpares 1 self.old.world.core }
-        requires sound { IsSound self.old.world }
+        requires free { is_busy (site_of self.old.flights) actor ≡ false }
+        requires room { HasSpares 1 self.old.flights.world.core }
+        requires sound { IsSound self.old.flights }
         ensures begins { OnOk result (BeginsLine (stand_of self.old) line actor task (stand_of self.new)) }
-        ensures sound { OnOk result (GoesSound self.old.world self.new.world) }
+        ensures sound { OnOk result (GoesSound self.old.flights self.new.flights) }
     {
         self.set_begun(actor, line);
-        let heard = self.world.begin(alloc, actor, task);
+        let heard = self.flights.begin(alloc, actor, task);
         self.tell(Telling::ToEnd, actor, line, heard)?;
         self.go_on(actor, awaited(heard.event))
     }
@@ -65,14 +65,14 @@ impl Run {
         task: Task,
     ) -> Result<(), AllocError>
         requires range { IsInReach actor task }
-        requires free { is_busy (site_of self.old.world) actor ≡ false }
-        requires room { HasSpares 1 self.old.world.core }
-        requires sound { IsSound self.old.world }
+        requires free { is_busy (site_of self.old.flights) actor ≡ false }
+        requires room { HasSpares 1 self.old.flights.world.core }
+        requires sound { IsSound self.old.flights }
         ensures begins { OnOk result (BeginsOnly (stand_of self.old) line actor task (stand_of self.new)) }
-        ensures sound { OnOk result (GoesSound self.old.world self.new.world) }
+        ensures sound { OnOk result (GoesSound self.old.flights self.new.flights) }
     {
         self.set_begun(actor, line);
-        let heard = self.world.begin(alloc, actor, task);
+        let heard = self.flights.begin(alloc, actor, task);
         self.tell(Telling::Plus { line }, actor, line, heard)
     }
 
@@ -84,11 +84,11 @@ impl Run {
         task: Task,
     ) -> Result<(), AllocError>
         requires range { IsInReach actor task }
-        requires free { is_busy (site_of self.old.world) actor ≡ false }
-        requires room { HasSpares 1 self.old.world.core }
-        requires sound { IsSound self.old.world }
+        requires free { is_busy (site_of self.old.flights) actor ≡ false }
+        requires room { HasSpares 1 self.old.flights.world.core }
+        requires sound { IsSound self.old.flights }
         ensures runs { OnOk result (RunsLine (stand_of self.old) line actor task (stand_of self.new)) }
-        ensures sound { OnOk result (GoesSound self.old.world self.new.world) }
+        ensures sound { OnOk result (GoesSound self.old.flights self.new.flights) }
     {
         self.begin_line(alloc, line, actor, task)?;
         self.run_out(Telling::ToEnd, actor)
@@ -103,11 +103,11 @@ impl Run {
         task: Result<Task, Errno>,
     ) -> Result<(), AllocError>
         requires range { IsInDeed actor task }
-        requires free { is_busy (site_of self.old.world) actor ≡ false }
-        requires room { HasSpares 1 self.old.world.core }
-        requires sound { IsSound self.old.world }
+        requires free { is_busy (site_of self.old.flights) actor ≡ false }
+        requires room { HasSpares 1 self.old.flights.world.core }
+        requires sound { IsSound self.old.flights }
         ensures runs { OnOk result (RunsTask (stand_of self.old) line actor task (stand_of self.new)) }
-        ensures sound { OnOk result (GoesSound self.old.world self.new.world) }
+        ensures sound { OnOk result (GoesSound self.old.flights self.new.flights) }
     {
         match task {
             Ok(task) => self.run_line(alloc, line, actor, task),
@@ -124,11 +124,11 @@ impl Run {
         task: Result<Task, Errno>,
     ) -> Result<(), AllocError>
         requires range { IsInDeed actor task }
-        requires free { is_busy (site_of self.old.world) actor ≡ false }
-        requires room { HasSpares 1 self.old.world.core }
-        requires sound { IsSound self.old.world }
+        requires free { is_busy (site_of self.old.flights) actor ≡ false }
+        requires room { HasSpares 1 self.old.flights.world.core }
+        requires sound { IsSound self.old.flights }
         ensures begins { OnOk result (BeginsTask (stand_of self.old) line actor task (stand_of self.new)) }
-        ensures sound { OnOk result (GoesSound self.old.world self.new.world) }
+        ensures sound { OnOk result (GoesSound self.old.flights self.new.flights) }
     {
         match task {
             Ok(task) => self.begin_only(alloc, line, actor, task),
@@ -142,10 +142,10 @@ impl Run {
     /// `A ..`
     fn plain(&mut self, alloc: Global, line: u32, actor: u32, deed: Deed) -> Result<(), AllocError>
         requires range { MayDo actor deed }
-        requires room { HasSpares 1 self.old.world.core }
-        requires sound { IsSound self.old.world }
+        requires room { HasSpares 1 self.old.flights.world.core }
+        requires sound { IsSound self.old.flights }
         ensures plays { OnOk result (PlaysOne (stand_of self.old) line (form.Plain actor deed) (stand_of self.new)) }
-        ensures sound { OnOk result (GoesSound self.old.world self.new.world) }
+        ensures sound { OnOk result (GoesSound self.old.flights self.new.flights) }
     {
         self.run_out(Telling::ToEnd, actor)?;
         let task = task_of(&self.replies, deed);
@@ -155,10 +155,10 @@ impl Run {
     /// `A- ..`
     fn minus(&mut self, alloc: Global, line: u32, actor: u32, deed: Deed) -> Result<(), AllocError>
         requires range { MayDo actor deed }
-        requires room { HasSpares 1 self.old.world.core }
-        requires sound { IsSound self.old.world }
+        requires room { HasSpares 1 self.old.flights.world.core }
+        requires sound { IsSound self.old.flights }
         ensures plays { OnOk result (PlaysOne (stand_of self.old) line (form.Minus actor deed) (stand_of self.new)) }
-        ensures sound { OnOk result (GoesSound self.old.world self.new.world) }
+        ensures sound { OnOk result (GoesSound self.old.flights self.new.flights) }
     {
         self.run_out(Telling::ToEnd, actor)?;
         let task = task_of(&self.replies, deed);
@@ -168,11 +168,11 @@ impl Run {
     /// `A+`
     fn plus(&mut self, line: u32, actor: u32) -> Result<(), AllocError>
         requires actor { IsActor actor }
-        requires sound { IsSound self.old.world }
-        ensures stand { OnOk result (stand_of self.new ≡ plus_line (is_busy (site_of self.old.world) actor) (stand_of self.old) line actor) }
-        ensures sound { OnOk result (StaysSound self.old.world self.new.world) }
+        requires sound { IsSound self.old.flights }
+        ensures stand { OnOk result (stand_of self.new ≡ plus_line (is_busy (site_of self.old.flights) actor) (stand_of self.old) line actor) }
+        ensures sound { OnOk result (StaysSound self.old.flights self.new.flights) }
     {
-        if !self.world.is_busy(actor) {
+        if !self.flights.is_busy(actor) {
             return self.say(line, Saying::Idle);
         }
         self.after_event(Telling::Plus { line }, actor)?;
@@ -183,14 +183,14 @@ impl Run {
     fn close_file(&mut self, line: u32, client: u32, file: u32) -> Result<(), AllocError>
         requires client { IsClient client }
         requires file { file < FILES }
-        requires free { is_busy (site_of self.old.world) client ≡ false }
-        requires sound { IsSound self.old.world }
+        requires free { is_busy (site_of self.old.flights) client ≡ false }
+        requires sound { IsSound self.old.flights }
         ensures closes { OnOk result (ClosesIf true (stand_of self.old) line client file (stand_of self.new)) }
-        ensures free { OnOk result (is_busy (site_of self.new.world) client ≡ false) }
-        ensures sound { OnOk result (StaysSound self.old.world self.new.world) }
+        ensures free { OnOk result (is_busy (site_of self.new.flights) client ≡ false) }
+        ensures sound { OnOk result (StaysSound self.old.flights self.new.flights) }
     {
         self.set_begun(client, line);
-        let heard = self.world.begin_close(client, file);
+        let heard = self.flights.begin_close(client, file);
         self.tell(Telling::Dying, client, line, heard)?;
         self.go_on(client, awaited(heard.event))?;
         self.run_out(Telling::Dying, client)
@@ -200,13 +200,13 @@ impl Run {
     fn close_own(&mut self, line: u32, client: u32, file: u32) -> Result<(), AllocError>
         requires client { IsClient client }
         requires file { file < FILES }
-        requires free { is_busy (site_of self.old.world) client ≡ false }
-        requires sound { IsSound self.old.world }
+        requires free { is_busy (site_of self.old.flights) client ≡ false }
+        requires sound { IsSound self.old.flights }
         ensures closes { OnOk result (ClosesOwn line client (stand_of self.old) file (stand_of self.new)) }
-        ensures free { OnOk result (is_busy (site_of self.new.world) client ≡ false) }
-        ensures sound { OnOk result (StaysSound self.old.world self.new.world) }
+        ensures free { OnOk result (is_busy (site_of self.new.flights) client ≡ false) }
+        ensures sound { OnOk result (StaysSound self.old.flights self.new.flights) }
     {
-        if self.world.is_clients(client, file) {
+        if self.flights.is_clients(client, file) {
             self.close_file(line, client, file)
         } else {
             Ok(())
@@ -215,10 +215,10 @@ impl Run {
 
     fn close_all_own(&mut self, line: u32, client: u32) -> Result<(), AllocError>
         requires client { IsClient client }
-        requires free { is_busy (site_of self.old.world) client ≡ false }
-        requires sound { IsSound self.old.world }
+        requires free { is_busy (site_of self.old.flights) client ≡ false }
+        requires sound { IsSound self.old.flights }
         ensures closes { OnOk result (Chain (ClosesOwn line client) (stand_of self.old) all_files (stand_of self.new)) }
-        ensures sound { OnOk result (StaysSound self.old.world self.new.world) }
+        ensures sound { OnOk result (StaysSound self.old.flights self.new.flights) }
     {
         for file in 0..FILES as u32 {
             self.close_own(line, client, file)?;
@@ -229,9 +229,9 @@ impl Run {
     /// `die C`
     fn die(&mut self, line: u32, client: u32) -> Result<(), AllocError>
         requires client { IsClient client }
-        requires sound { IsSound self.old.world }
+        requires sound { IsSound self.old.flights }
         ensures plays { OnOk result (PlaysOne (stand_of self.old) line (form.Die client) (stand_of self.new)) }
-        ensures sound { OnOk result (StaysSound self.old.world self.new.world) }
+        ensures sound { OnOk result (StaysSound self.old.flights self.new.flights) }
     {
         self.run_out(Telling::ToEnd, client)?;
         self.close_all_own(line, client)?;
@@ -241,10 +241,10 @@ impl Run {
     /// Plays a line.
     pub fn play(&mut self, alloc: Global, line: &Line) -> Result<(), AllocError>
         requires range { IsInRange line.now }
-        requires room { HasSpares 1 self.old.world.core }
-        requires sound { IsSound self.old.world }
+        requires room { HasSpares 1 self.old.flights.world.core }
+        requires sound { IsSound self.old.flights }
         ensures plays { OnOk result (PlaysOne (stand_of self.old) line.now.number line.now.form (stand_of self.new)) }
-        ensures sound { OnOk result (GoesSound self.old.world self.new.world) }
+        ensures sound { OnOk result (GoesSound self.old.flights self.new.flights) }
     {
         match line.form {
             Form::Plain { actor, deed } => self.plain(alloc, line.number, actor, deed),
@@ -256,20 +256,20 @@ impl Run {
 
     /// Plays the lines of a script. What it gives are marks: how long the history was as each line began, and after the last one.
     pub fn play_all(&mut self, alloc: Global, script: &Script) -> Result<List<usize>, AllocError>
-        requires room { HasSpares SCRIPT_LINES self.old.world.core }
-        requires ender { is_busy (site_of self.old.world) ENDER ≡ false }
-        requires sound { IsSound self.old.world }
+        requires room { HasSpares SCRIPT_LINES self.old.flights.world.core }
+        requires ender { is_busy (site_of self.old.flights) ENDER ≡ false }
+        requires sound { IsSound self.old.flights }
         ensures plays { IfOk result (λ marks. PlaysMarked (stand_of self.old) script.now (stand_of self.new) marks) }
         ensures ranges { OnOk result (All IsInRange script.now) }
-        ensures ender { OnOk result (is_busy (site_of self.new.world) ENDER ≡ false) }
-        ensures sound { OnOk result (IsSound self.new.world) }
+        ensures ender { OnOk result (is_busy (site_of self.new.flights) ENDER ≡ false) }
+        ensures sound { OnOk result (IsSound self.new.flights) }
     {
         let mut marks = List::new(alloc);
         for place in 0..script.len() {
-            marks.push(self.world.core.entries())?;
+            marks.push(self.flights.world.core.entries())?;
             self.play(alloc, script.line(place))?;
         }
-        marks.push(self.world.core.entries())?;
+        marks.push(self.flights.world.core.entries())?;
         Ok(marks)
     }
 }

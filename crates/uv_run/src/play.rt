@@ -18,22 +18,23 @@ ghost use Rattle.uv_run.specs.declared.reply.Telling.TheVariants.{ToEnd};
 use crate::reply::Telling;
 use crate::running::Run;
 use crate::sayings::awaited;
-use crate::world::World;
+use crate::flights::Flights;
 use std::alloc::{AllocError, Global};
 use uv_model::{Left, left_in};
 use uv_num::{DRIVER, ENDER, FILES, List};
 use uv_report::Record;
 use uv_script::Script;
+use uv_world::World;
 
 /// The end of a script.
 impl Run {
     /// Runs what is in flight after the last line to its end.
     fn finish(&mut self) -> Result<(), AllocError>
-        requires ender { is_busy (site_of self.old.world) ENDER ≡ false }
-        requires sound { IsSound self.old.world }
+        requires ender { is_busy (site_of self.old.flights) ENDER ≡ false }
+        requires sound { IsSound self.old.flights }
         ensures finishes { OnOk result (RunsOutAll ToEnd (stand_of self.old) all_actors (stand_of self.new)) }
-        ensures idle { OnOk result (AreIdle (site_of self.new.world) ENDER) }
-        ensures sound { OnOk result (StaysSound self.old.world self.new.world) }
+        ensures idle { OnOk result (AreIdle (site_of self.new.flights) ENDER) }
+        ensures sound { OnOk result (StaysSound self.old.flights self.new.flights) }
     {
         for before in 0..DRIVER {
             self.run_out(Telling::ToEnd, before + 1)?;
@@ -44,14 +45,14 @@ impl Run {
     /// Closes a file by the end of the script.
     fn end_file(&mut self, file: u32) -> Result<(), AllocError>
         requires file { file < FILES }
-        requires callable { is_callable (phase_of (state_of self.old.world.core.history) file) ≡ true }
-        requires free { is_busy (site_of self.old.world) ENDER ≡ false }
-        requires sound { IsSound self.old.world }
+        requires callable { is_callable (phase_of (state_of self.old.flights.world.core.history) file) ≡ true }
+        requires free { is_busy (site_of self.old.flights) ENDER ≡ false }
+        requires sound { IsSound self.old.flights }
         ensures closes { OnOk result (ClosesEnd true (stand_of self.old) file (stand_of self.new)) }
-        ensures ended { OnOk result (is_ending (phase_of (state_of self.new.world.core.history) file) ≡ true) }
-        ensures sound { OnOk result (StaysSound self.old.world self.new.world) }
+        ensures ended { OnOk result (is_ending (phase_of (state_of self.new.flights.world.core.history) file) ≡ true) }
+        ensures sound { OnOk result (StaysSound self.old.flights self.new.flights) }
     {
-        let heard = self.world.begin_close(ENDER, file);
+        let heard = self.flights.begin_close(ENDER, file);
         self.tell(Telling::Ending, ENDER, 0, heard)?;
         self.go_on(ENDER, awaited(heard.event))?;
         self.run_out(Telling::Ending, ENDER)
@@ -60,13 +61,13 @@ impl Run {
     /// Closes a file by the end of the script if calls may enter it.
     fn end_open(&mut self, file: u32) -> Result<(), AllocError>
         requires file { file < FILES }
-        requires idle { AreIdle (site_of self.old.world) ENDER }
-        requires sound { IsSound self.old.world }
+        requires idle { AreIdle (site_of self.old.flights) ENDER }
+        requires sound { IsSound self.old.flights }
         ensures ends { OnOk result (EndsFile (stand_of self.old) file (stand_of self.new)) }
-        ensures ended { OnOk result (is_ending (phase_of (state_of self.new.world.core.history) file) ≡ true) }
-        ensures sound { OnOk result (StaysSound self.old.world self.new.world) }
+        ensures ended { OnOk result (is_ending (phase_of (state_of self.new.flights.world.core.history) file) ≡ true) }
+        ensures sound { OnOk result (StaysSound self.old.flights self.new.flights) }
     {
-        if self.world.is_callable(file) {
+        if self.flights.is_callable(file) {
             self.end_file(file)
         } else {
             Ok(())
@@ -75,12 +76,12 @@ impl Run {
 
     /// Closes the files that are left open, in the order of their numbers.
     fn end(&mut self) -> Result<(), AllocError>
-        requires idle { AreIdle (site_of self.old.world) ENDER }
-        requires sound { IsSound self.old.world }
+        requires idle { AreIdle (site_of self.old.flights) ENDER }
+        requires sound { IsSound self.old.flights }
         ensures ends { OnOk result (EndsAll (stand_of self.old) all_files (stand_of self.new)) }
-        ensures idle { OnOk result (IsIdle (state_of self.new.world.core.history)) }
-        ensures over { OnOk result (AreOver (state_of self.new.world.core.history)) }
-        ensures sound { OnOk result (StaysSound self.old.world self.new.world) }
+        ensures idle { OnOk result (IsIdle (state_of self.new.flights.world.core.history)) }
+        ensures over { OnOk result (AreOver (state_of self.new.flights.world.core.history)) }
+        ensures sound { OnOk result (StaysSound self.old.flights self.new.flights) }
     {
         for file in 0..FILES as u32 {
             self.end_open(file)?;
@@ -90,17 +91,18 @@ impl Run {
 
     /// What the run stored and told.
     fn into_record(self, left: List<Left>) -> Record
-        requires idle { IsIdle (state_of self.world.core.history) }
-        requires over { AreOver (state_of self.world.core.history) }
-        ensures history { result.history ≡ self.world.core.history }
+        requires idle { IsIdle (state_of self.flights.world.core.history) }
+        requires over { AreOver (state_of self.flights.world.core.history) }
+        ensures history { result.history ≡ self.flights.world.core.history }
         ensures replies { result.replies ≡ self.said }
         ensures left { result.left ≡ left }
         ensures legal { IsLegal result.history }
     {
-        let Run { world, said, .. } = self;
+        let Run { flights, said, .. } = self;
+        let Flights { world, .. } = flights;
         let World { core, .. } = world;
         let (history, pools) = core.history();
-        // The cells hold nothing that is told.
+        // Of what the cells hold nothing is told yet.
         let _ = pools;
         Record {
             history,
@@ -118,7 +120,7 @@ pub fn play_marked(alloc: Global, script: &Script) -> Result<(Record, List<usize
     let mut run = Run::new(alloc)?;
     let marks = run.play_all(alloc, script)?;
     run.finish()?;
-    let left = left_in(alloc, run.world.core.objects())?;
+    let left = left_in(alloc, run.flights.world.core.objects())?;
     run.end()?;
     Ok((run.into_record(left), marks))
 }

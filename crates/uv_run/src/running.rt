@@ -15,7 +15,7 @@ use crate::heard::{Event, Heard};
 use crate::replies::Replies;
 use crate::reply::{Reply, Telling};
 use crate::sayings::{awaited, event_line, event_text, reply_by, reply_text};
-use crate::world::World;
+use crate::flights::Flights;
 use std::alloc::{AllocError, Global};
 use uv_num::{ACTOR_PLACES, ACTORS, List};
 use uv_report::{Said, Saying};
@@ -23,7 +23,7 @@ use uv_report::{Said, Saying};
 /// The site, and beside it the lines that began what is in flight, the replies, and what was told.
 #[derive(Drop)]
 pub struct Run {
-    pub(crate) world: World,
+    pub(crate) flights: Flights,
     /// By actor, the line that began what it has in flight, or had last.
     pub(crate) begun: [u32; ACTOR_PLACES],
     pub(crate) replies: Replies,
@@ -54,12 +54,12 @@ impl Run {
     #[tactic(auto, unfolding(crate::specs::Follows::start_stand))]
     pub fn new(alloc: Global) -> Result<Run, AllocError>
         ensures stand { IfOk result (λ r. stand_of r ≡ start_stand) }
-        ensures sound { IfOk result (λ r. IsSound r.world) }
-        ensures spares { IfOk result (λ r. HasSpares SCRIPT_LINES r.world.core) }
-        ensures ender { IfOk result (λ r. is_busy (site_of r.world) ENDER ≡ false) }
+        ensures sound { IfOk result (λ r. IsSound r.flights) }
+        ensures spares { IfOk result (λ r. HasSpares SCRIPT_LINES r.flights.world.core) }
+        ensures ender { IfOk result (λ r. is_busy (site_of r.flights) ENDER ≡ false) }
     {
         Ok(Run {
-            world: World::new(alloc)?,
+            flights: Flights::new(alloc)?,
             begun: [0; ACTOR_PLACES],
             replies: Replies::new(alloc),
             said: List::new(alloc),
@@ -79,7 +79,7 @@ impl Run {
     /// Tells a text under a line's number.
     pub(crate) fn say(&mut self, line: u32, text: Saying) -> Result<(), AllocError>
         ensures said { OnOk result (stand_of self.new ≡ with_said (stand_of self.old) line text) }
-        ensures world { OnOk result (self.new.world ≡ self.old.world) }
+        ensures flights { OnOk result (self.new.flights ≡ self.old.flights) }
     {
         self.said.push(Said { line, text })
     }
@@ -92,8 +92,8 @@ impl Run {
         line: u32,
         heard: Heard,
     ) -> Result<(), AllocError>
-        ensures told { OnOk result (stand_of self.new ≡ after_turned telling (stand_of self.old) actor line (record { site = site_of self.old.world; heard = heard })) }
-        ensures world { OnOk result (self.new.world ≡ self.old.world) }
+        ensures told { OnOk result (stand_of self.new ≡ after_turned telling (stand_of self.old) actor line (record { site = site_of self.old.flights; heard = heard })) }
+        ensures flights { OnOk result (self.new.flights ≡ self.old.flights) }
     {
         let reply = reply_by(telling, line, actor, heard.ends);
         put_said(
@@ -111,14 +111,14 @@ impl Run {
     /// One event of an actor, told.
     pub(crate) fn after_event(&mut self, telling: Telling, actor: u32) -> Result<Event, AllocError>
         requires actor { IsActor actor }
-        requires sound { IsSound self.old.world }
+        requires sound { IsSound self.old.flights }
         ensures stand { OnOk result (stand_of self.new ≡ after_event telling (stand_of self.old) actor) }
-        ensures event { IfOk result (λ e. e ≡ (event_of (site_of self.old.world) actor).heard.event) }
-        ensures progress { IfOk result (λ e. AdvancesBy (site_of self.old.world) (site_of self.new.world) actor e) }
-        ensures sound { OnOk result (StaysSound self.old.world self.new.world) }
+        ensures event { IfOk result (λ e. e ≡ (event_of (site_of self.old.flights) actor).heard.event) }
+        ensures progress { IfOk result (λ e. AdvancesBy (site_of self.old.flights) (site_of self.new.flights) actor e) }
+        ensures sound { OnOk result (StaysSound self.old.flights self.new.flights) }
     {
         let line = self.begun_by(actor);
-        let heard = self.world.event(actor);
+        let heard = self.flights.event(actor);
         self.tell(telling, actor, line, heard)?;
         Ok(heard.event)
     }
@@ -126,12 +126,12 @@ impl Run {
     /// Another actor that is on the file makes one event.
     fn other_goes(&mut self, actor: u32, file: u32, other: u32) -> Result<(), AllocError>
         requires other { IsActor other }
-        requires sound { IsSound self.old.world }
+        requires sound { IsSound self.old.flights }
         ensures stand { OnOk result (stand_of self.new ≡ other_goes (stand_of self.old) actor file other) }
-        ensures lowers { OnOk result (LowersOne (site_of self.old.world) (site_of self.new.world) actor file other) }
-        ensures sound { OnOk result (StaysSound self.old.world self.new.world) }
+        ensures lowers { OnOk result (LowersOne (site_of self.old.flights) (site_of self.new.flights) actor file other) }
+        ensures sound { OnOk result (StaysSound self.old.flights self.new.flights) }
     {
-        if other == actor || !self.world.is_on(file, other) {
+        if other == actor || !self.flights.is_on(file, other) {
             return Ok(());
         }
         self.after_event(Telling::ToEnd, other)?;
@@ -140,10 +140,10 @@ impl Run {
 
     /// Each other actor that is on the file makes one event.
     fn others_go(&mut self, actor: u32, file: u32) -> Result<(), AllocError>
-        requires sound { IsSound self.old.world }
+        requires sound { IsSound self.old.flights }
         ensures stand { OnOk result (stand_of self.new ≡ others_go (stand_of self.old) actor file) }
-        ensures lowers { OnOk result (Lowers (site_of self.old.world) (site_of self.new.world) actor file ACTORS) }
-        ensures sound { OnOk result (StaysSound self.old.world self.new.world) }
+        ensures lowers { OnOk result (Lowers (site_of self.old.flights) (site_of self.new.flights) actor file ACTORS) }
+        ensures sound { OnOk result (StaysSound self.old.flights self.new.flights) }
     {
         for before in 0..ACTORS {
             self.other_goes(actor, file, before + 1)?;
@@ -153,10 +153,10 @@ impl Run {
 
     /// Where an event had to wait for others they go on.
     pub(crate) fn go_on(&mut self, actor: u32, file: Option<u32>) -> Result<(), AllocError>
-        requires sound { IsSound self.old.world }
+        requires sound { IsSound self.old.flights }
         ensures stand { OnOk result (stand_of self.new ≡ others_if file actor (stand_of self.old)) }
-        ensures lowers { OnOk result (LowersOn (site_of self.old.world) (site_of self.new.world) actor file) }
-        ensures sound { OnOk result (StaysSound self.old.world self.new.world) }
+        ensures lowers { OnOk result (LowersOn (site_of self.old.flights) (site_of self.new.flights) actor file) }
+        ensures sound { OnOk result (StaysSound self.old.flights self.new.flights) }
     {
         match file {
             None => Ok(()),
@@ -168,13 +168,13 @@ impl Run {
     #[tactic(auto, unfolding(crate::specs::Turns::one_turn))]
     fn one_turn(&mut self, telling: Telling, actor: u32) -> Result<(), AllocError>
         requires actor { IsActor actor }
-        requires busy { is_busy (site_of self.old.world) actor ≡ true }
-        requires sound { IsSound self.old.world }
+        requires busy { is_busy (site_of self.old.flights) actor ≡ true }
+        requires sound { IsSound self.old.flights }
         ensures stand { OnOk result (stand_of self.new ≡ one_turn telling (stand_of self.old) actor) }
-        ensures less { OnOk result (ahead (site_of self.new.world) < ahead (site_of self.old.world)) }
-        ensures sound { OnOk result (StaysSound self.old.world self.new.world) }
+        ensures less { OnOk result (ahead (site_of self.new.flights) < ahead (site_of self.old.flights)) }
+        ensures sound { OnOk result (StaysSound self.old.flights self.new.flights) }
     {
-        self.world.tears_once();
+        self.flights.tears_once();
         let event = self.after_event(telling, actor)?;
         self.go_on(actor, awaited(event))
     }
@@ -182,11 +182,11 @@ impl Run {
     /// Runs what an actor has in flight to its end.
     pub(crate) fn run_out(&mut self, telling: Telling, actor: u32) -> Result<(), AllocError>
         requires actor { IsActor actor }
-        requires sound { IsSound self.old.world }
+        requires sound { IsSound self.old.flights }
         ensures runs { OnOk result (RunsOut telling (stand_of self.old) actor (stand_of self.new)) }
-        ensures sound { OnOk result (StaysSound self.old.world self.new.world) }
+        ensures sound { OnOk result (StaysSound self.old.flights self.new.flights) }
     {
-        while self.world.is_busy(actor) {
+        while self.flights.is_busy(actor) {
             self.one_turn(telling, actor)?;
         }
         Ok(())

@@ -13,24 +13,21 @@ ghost use Rattle.uv_run.specs.Progress.{Advances, flying};
 ghost use Rattle.uv_run.specs.Site.{teardown_of, killed_of, teardown_turn, tears_turn, begin_turn, close_turn, unplug_turn, removal_turn, sweep_turn, swept_turn, release_turn, ended_turn, dissociated_turn, torn_by, file_ahead};
 ghost use Rattle.uv_run.specs.Sound.{site_of, IsSound, Moved};
 ghost use Rattle.uv_run.specs.declared.heard.Event.TheVariants as event;
-ghost use Rattle.uv_pool.specs.Plain.{plain_facts};
 ghost use Rattle.uv_run.specs.Site.{goes_on};
-ghost use Rattle.uv_run.specs.Steps.{KeepsKilled};
 
-use crate::deeds::{buried, put, take};
 use crate::flight::{Killed, Teardown};
 use crate::heard::{Event, Heard};
-use crate::world::{World, ends_with, goes_on};
-use uv_core::{Swept, Torn};
+use crate::flights::{Flights, ends_with, goes_on};
+use uv_core::Torn;
 use uv_machine::Answer;
 use uv_model::Left;
 use uv_num::{Errno, Put, change_at};
-use uv_pool::plain::PlainDeed;
+use uv_world::Turn;
 
-impl World {
+impl Flights {
     /// The next event of an actor's teardown, if it has one in flight.
     pub(crate) fn teardown_event(&mut self, actor: u32) -> Heard
-        requires call { call_of (state_of self.old.core.history) actor ≡ None }
+        requires call { call_of (state_of self.old.world.core.history) actor ≡ None }
         requires actor { IsActor actor }
         requires sound { IsSound self.old }
         ensures turned { record { site = site_of self.new; heard = result } ≡ teardown_turn (site_of self.old) actor (teardown_of (site_of self.old) actor) }
@@ -44,15 +41,15 @@ impl World {
     }
 
     fn tears(&mut self, actor: u32, teardown: Teardown) -> Heard
-        requires call { call_of (state_of self.old.core.history) actor ≡ None }
+        requires call { call_of (state_of self.old.world.core.history) actor ≡ None }
         requires actor { IsActor actor }
         requires teardown { teardown_of (site_of self.old) actor ≡ Some teardown }
         requires sound { IsSound self.old }
-        ensures turned { record { site = site_of self.new; heard = result } ≡ tears_turn (site_of self.old) actor teardown (torn_by (state_of self.old.core.history) actor) }
+        ensures turned { record { site = site_of self.new; heard = result } ≡ tears_turn (site_of self.old) actor teardown (torn_by (state_of self.old.world.core.history) actor) }
         ensures progress { Advances (site_of self.old) actor (record { site = site_of self.new; heard = result }) }
         ensures moved { Moved actor self.old self.new }
     {
-        match self.core.torn_by(actor) {
+        match self.world.core.torn_by(actor) {
             None => self.begin_tear(actor, teardown),
             Some(file) => self.sweep(actor, file, teardown),
         }
@@ -60,9 +57,9 @@ impl World {
 
     /// Begins to tear a file down.
     fn begin_tear(&mut self, actor: u32, teardown: Teardown) -> Heard
-        requires call { call_of (state_of self.old.core.history) actor ≡ None }
+        requires call { call_of (state_of self.old.world.core.history) actor ≡ None }
         requires teardown { teardown_of (site_of self.old) actor ≡ Some teardown }
-        requires none { TearsNone (own_of self.old.core actor) }
+        requires none { TearsNone (own_of self.old.world.core actor) }
         requires sound { IsSound self.old }
         ensures turned { record { site = site_of self.new; heard = result } ≡ begin_turn (site_of self.old) actor teardown }
         ensures progress { Advances (site_of self.old) actor (record { site = site_of self.new; heard = result }) }
@@ -83,15 +80,15 @@ impl World {
 
     /// Begins to close a file, or waits for the driver, or ends refused.
     pub(crate) fn close(&mut self, actor: u32, file: u32) -> Heard
-        requires call { call_of (state_of self.old.core.history) actor ≡ None }
+        requires call { call_of (state_of self.old.world.core.history) actor ≡ None }
         requires teardown { teardown_of (site_of self.old) actor ≡ Some (Closing file) }
-        requires none { TearsNone (own_of self.old.core actor) }
+        requires none { TearsNone (own_of self.old.world.core actor) }
         requires sound { IsSound self.old }
-        ensures turned { record { site = site_of self.new; heard = result } ≡ close_turn (site_of self.old) actor file (phase_of (state_of self.old.core.history) file) }
+        ensures turned { record { site = site_of self.new; heard = result } ≡ close_turn (site_of self.old) actor file (phase_of (state_of self.old.world.core.history) file) }
         ensures progress { Advances (site_of self.old) actor (record { site = site_of self.new; heard = result }) }
         ensures moved { Moved actor self.old self.new }
     {
-        match self.core.close(actor, file) {
+        match self.world.close(actor, file) {
             Torn::Began => goes_on(Event::Torn(file)),
             Torn::NotYet(by) => goes_on(Event::TornBy { file, by }),
             Torn::Refused(_) => {
@@ -103,11 +100,11 @@ impl World {
 
     /// Begins to tear the next file of a pulled device, or ends where there is none.
     fn remove(&mut self, actor: u32, device: u32) -> Heard
-        requires call { call_of (state_of self.old.core.history) actor ≡ None }
+        requires call { call_of (state_of self.old.world.core.history) actor ≡ None }
         requires teardown { teardown_of (site_of self.old) actor ≡ Some (Unplugging device) }
-        requires none { TearsNone (own_of self.old.core actor) }
+        requires none { TearsNone (own_of self.old.world.core actor) }
         requires sound { IsSound self.old }
-        ensures turned { record { site = site_of self.new; heard = result } ≡ unplug_turn (site_of self.old) actor (file_ahead (state_of self.old.core.history) device) }
+        ensures turned { record { site = site_of self.new; heard = result } ≡ unplug_turn (site_of self.old) actor (file_ahead (state_of self.old.world.core.history) device) }
         ensures progress { Advances (site_of self.old) actor (record { site = site_of self.new; heard = result }) }
         ensures moved { Moved actor self.old self.new }
     {
@@ -122,16 +119,16 @@ impl World {
 
     /// Begins to tear a file of a pulled device, or waits for who is tearing it.
     fn remove_from(&mut self, actor: u32, device: u32, file: u32) -> Heard
-        requires call { call_of (state_of self.old.core.history) actor ≡ None }
+        requires call { call_of (state_of self.old.world.core.history) actor ≡ None }
         requires teardown { teardown_of (site_of self.old) actor ≡ Some (Unplugging device) }
-        requires none { TearsNone (own_of self.old.core actor) }
-        requires ahead { file_ahead (state_of self.old.core.history) device ≡ Some file }
+        requires none { TearsNone (own_of self.old.world.core actor) }
+        requires ahead { file_ahead (state_of self.old.world.core.history) device ≡ Some file }
         requires sound { IsSound self.old }
-        ensures turned { record { site = site_of self.new; heard = result } ≡ removal_turn (site_of self.old) actor file (phase_of (state_of self.old.core.history) file) }
+        ensures turned { record { site = site_of self.new; heard = result } ≡ removal_turn (site_of self.old) actor file (phase_of (state_of self.old.world.core.history) file) }
         ensures progress { Advances (site_of self.old) actor (record { site = site_of self.new; heard = result }) }
         ensures moved { Moved actor self.old self.new }
     {
-        match self.core.tear(device, file) {
+        match self.world.tear(device, file) {
             Torn::Began => goes_on(Event::Torn(file)),
             Torn::NotYet(by) => goes_on(Event::TornBy { file, by }),
             Torn::Refused(_) => unreachable!(),
@@ -140,9 +137,9 @@ impl World {
 
     /// Releases what was taken out of use, or goes on with the sweep.
     fn sweep(&mut self, actor: u32, file: u32, teardown: Teardown) -> Heard
-        requires call { call_of (state_of self.old.core.history) actor ≡ None }
+        requires call { call_of (state_of self.old.world.core.history) actor ≡ None }
         requires teardown { teardown_of (site_of self.old) actor ≡ Some teardown }
-        requires tears { (own_of self.old.core actor).tear ≡ Some file }
+        requires tears { (own_of self.old.world.core actor).tear ≡ Some file }
         requires sound { IsSound self.old }
         ensures turned { record { site = site_of self.new; heard = result } ≡ sweep_turn (site_of self.old) actor file teardown (killed_of (site_of self.old) actor) }
         ensures progress { Advances (site_of self.old) actor (record { site = site_of self.new; heard = result }) }
@@ -154,64 +151,55 @@ impl World {
         }
     }
 
-    /// Releases what was taken out of use. Nothing is kept of it.
+    /// Releases what was taken out of use.
     fn release(&mut self, actor: u32, file: u32, _teardown: Teardown, x: Killed) -> Heard
         requires teardown { teardown_of (site_of self.old) actor ≡ Some _teardown }
-        requires call { call_of (state_of self.old.core.history) actor ≡ None }
+        requires call { call_of (state_of self.old.world.core.history) actor ≡ None }
         requires killed { killed_of (site_of self.old) actor ≡ Some x }
-        requires tears { (own_of self.old.core actor).tear ≡ Some file }
+        requires tears { (own_of self.old.world.core actor).tear ≡ Some file }
         requires sound { IsSound self.old }
-        ensures turned { record { site = site_of self.new; heard = result } ≡ release_turn (site_of self.old) actor x }
+        ensures turned { record { site = site_of self.new; heard = result } ≡ release_turn (site_of self.old) actor file x }
         ensures progress { Advances (site_of self.old) actor (record { site = site_of self.new; heard = result }) }
         ensures moved { Moved actor self.old self.new }
     {
-        match take(&mut self.kills, actor) {
-            None => unreachable!(),
-            Some(deed) => {
-                self.core.gone(actor, file, deed, 0);
-                change_at(&mut self.killed, actor as usize, Put(None));
-                goes_on(Event::Went(x.left))
-            }
-        }
+        let _object = self.world.gone(actor, file);
+        change_at(&mut self.killed, actor as usize, Put(None));
+        goes_on(Event::Went(x.left))
     }
 
     /// Takes the next object out of use, ends the teardown of a file, or waits for calls.
     fn sweep_on(&mut self, actor: u32, file: u32, teardown: Teardown) -> Heard
-        requires call { call_of (state_of self.old.core.history) actor ≡ None }
+        requires call { call_of (state_of self.old.world.core.history) actor ≡ None }
         requires teardown { teardown_of (site_of self.old) actor ≡ Some teardown }
-        requires tears { (own_of self.old.core actor).tear ≡ Some file }
+        requires tears { (own_of self.old.world.core actor).tear ≡ Some file }
         requires none { killed_of (site_of self.old) actor ≡ None }
         requires sound { IsSound self.old }
         ensures turned { record { site = site_of self.new; heard = result } ≡ swept_turn (site_of self.old) actor file teardown }
         ensures progress { Advances (site_of self.old) actor (record { site = site_of self.new; heard = result }) }
         ensures moved { Moved actor self.old self.new }
     {
-        self.core.has_places();
-        match self.core.sweep(actor, file) {
-            Swept::Kill {
-                deed,
+        match self.world.sweep(actor, file) {
+            Turn::Killed {
                 object,
                 kind,
                 handle,
             } => self.kill(
                 actor,
-                deed,
                 Killed {
                     object,
                     left: Left { file, kind, handle },
                 },
             ),
-            Swept::Done => self.end(actor, file, teardown),
-            Swept::NotYet(calls) => goes_on(Event::NotYet { file, calls }),
+            Turn::Done => self.end(actor, file, teardown),
+            Turn::NotYet(calls) => goes_on(Event::NotYet { file, calls }),
         }
     }
 
     /// Keeps what was taken out of use until it is released.
-    fn kill(&mut self, actor: u32, deed: PlainDeed, x: Killed) -> Heard
+    fn kill(&mut self, actor: u32, x: Killed) -> Heard
         ensures heard { result ≡ goes_on (event.Killed x.left) }
-        ensures kept { KeepsKilled actor (plain_facts deed) x self.old self.new }
+        ensures kept { self.new ≡ record self.old { killed = at_place self.old.killed actor (put_slot (Some x)) } }
     {
-        put(&mut self.kills, actor, buried(deed));
         change_at(&mut self.killed, actor as usize, Put(Some(x)));
         goes_on(Event::Killed(x.left))
     }
@@ -219,10 +207,10 @@ impl World {
     /// The teardown of a file has ended.
     fn end(&mut self, actor: u32, file: u32, teardown: Teardown) -> Heard
         requires teardown { teardown_of (site_of self.old) actor ≡ Some teardown }
-        requires none { TearsNone (own_of self.old.core actor) }
+        requires none { TearsNone (own_of self.old.world.core actor) }
         requires sound { IsSound self.old }
         ensures turned { record { site = site_of self.new; heard = result } ≡ ended_turn (site_of self.old) actor file teardown }
-        ensures core { self.new.core ≡ self.old.core }
+        ensures world { self.new.world ≡ self.old.world }
         ensures fewer { sum_by flying self.new.teardowns ≤ sum_by flying self.old.teardowns }
         ensures moved { Moved actor self.old self.new }
     {
@@ -237,10 +225,10 @@ impl World {
 
     /// The driver is through with a file, and with the device where no other is left.
     fn dissociate(&mut self, actor: u32, device: u32, file: u32) -> Heard
-        requires none { TearsNone (own_of self.old.core actor) }
+        requires none { TearsNone (own_of self.old.world.core actor) }
         requires sound { IsSound self.old }
         ensures turned { record { site = site_of self.new; heard = result } ≡ dissociated_turn (site_of self.old) actor device file }
-        ensures core { self.new.core ≡ self.old.core }
+        ensures world { self.new.world ≡ self.old.world }
         ensures fewer { sum_by flying self.new.teardowns ≤ sum_by flying self.old.teardowns }
         ensures moved { Moved actor self.old self.new }
     {

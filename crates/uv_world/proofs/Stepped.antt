@@ -150,6 +150,7 @@ makes_next a old new call d seated is next legal more kills spares others conten
       spares = spares;
       others = others;
       contents = contents;
+      doomed = doomed;
       seated =
           subst X (sym doomed)
           (seated_after a old.core new.core old.retired new.retired old.doomed old.doomed seated legal others size refl beside (λ b ne. refl)

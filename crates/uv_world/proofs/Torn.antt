@@ -20,7 +20,7 @@ use Rattle.uv_machine.specs.Histories.{IsActor, IsLegal, state_of}
 use Rattle.uv_machine.specs.Laws.{is_of}
 use Rattle.uv_machine.specs.Moves.{entry_move}
 use Rattle.uv_machine.specs.Objects.{has_id}
-use Rattle.uv_machine.specs.States.{call_of, newest_free, object_with}
+use Rattle.uv_machine.specs.States.{call_of, is_unplugged, newest_free, object_with}
 use Rattle.uv_graph.specs.declared.told.Torn.{Torn}
 use Rattle.uv_graph.specs.declared.told.Torn.TheVariants as torn
 use Rattle.uv_graph.specs.declared.out.Out.{Out}
@@ -44,7 +44,7 @@ use Rattle.uv_world.specs.Moving.{held_after, held_moved}
 use Rattle.uv_world.specs.Owing.{MoveFits}
 use Rattle.uv_world.specs.Seating.{AreSeated, CallIsSeated, HoldsDoomed, IsAtRest, IsDoomedBy, stage_of}
 use Rattle.uv_world.specs.Stages.{Stage, stage_then}
-use Rattle.uv_world.specs.Tearing.{LaysDoomed, StageTurn, kill_ahead, stage_killed, stage_swept, stage_torn, stage_unplugged}
+use Rattle.uv_world.specs.Tearing.{LaysDoomed, StageTurn, kill_ahead, object_doomed, pull_of, stage_killed, stage_swept, stage_torn, stage_unplugged}
 use Rattle.uv_world.proofs.Ranged.{kill_fits}
 use Rattle.uv_world.proofs.Rested.{seat_idle, seated_noted}
 use Rattle.uv_world.proofs.Seating.{none_held, seated_after, slot_beside, slot_filled, slot_emptied}
@@ -59,6 +59,10 @@ kept_seated k k' r x same seated =
     subst P (sym same) seated
 
 -- An unplug.
+
+pub unplug_answer : (k k' : Kept) (d : ℕ) (said : Result (Unit {0}) Errno) → UnplugGives k k' d said → said ≡ pull_of (is_unplugged (state_of k.history) d)
+unplug_answer k k' d (Ok u) g = sym (ap pull_of g.plugged)
+unplug_answer k k' d (Err e) g = ap (λ (v : Errno). (let r : Result (Unit {0}) Errno = Err v in r)) g.gone ∙ sym (ap pull_of g.unplugged)
 
 pub unplug_stage : (w : World) (k : Kept) (d : ℕ) (said : Result (Unit {0}) Errno) → UnplugGives w.core k d said → (let s : Stage = record { history = k.history; held = held_of w.contents } in s) ≡ stage_unplugged (stage_of w) d said
 unplug_stage w k d (Ok u) g = stage_same _ _ _ _ g.notes.history refl
@@ -172,6 +176,11 @@ seated_killed a f o k k' r x x' deed seated rest actor legal others outs none le
     seated_after a k k' r r x x' seated legal others refl (ap length lies.lies ∙ length-at_place x a _) (λ b ne. refl)
     (λ b ne. ap (λ (v : List (Option Doomed)). value_of_slot v b) lies.lies ∙ slot_beside x a b (Some now) ne)
     (seat_idle a k k' (value_of_slot r a) (value_of_slot x a) (value_of_slot x' a) fits rest.call outs (no_call_fits a (call_of (state_of k'.history) a) (value_of_slot x' a) none) (subst P (sym there) held))
+
+-- and is known there
+pub killed_lies : (a o : ℕ) (x x' : List (Option Doomed)) (deed : PlainDeed) → a < length x → (lies : LaysDoomed deed o (λ now. x' ≡ slots_set x a (Some now))) → object_doomed (value_of_slot x' a) ≡ Some o
+killed_lies a o x x' deed low lies =
+    ap (λ (v : List (Option Doomed)). object_doomed (value_of_slot v a)) lies.lies ∙ ap object_doomed (slot_filled x a (Some (record { object = o; deed = lies.now })) low)
 
 last_other : (a f : ℕ) (b : Bool) → is_of a (if b then entry.Dissociated f else entry.Closed f) ≡ false
 last_other a f true = refl

@@ -104,6 +104,7 @@ pub record MakesNext (a : ℕ) (old new : World) : Type 0 where
   pub spares : new.core.spares ≡ old.core.spares
   pub others : OthersKeep a old.core new.core
   pub contents : new.contents ≡ old.contents
+  pub doomed : new.doomed ≡ old.doomed
   pub seated : AreSeated new.core new.retired new.doomed
 
 -- the deed of a new object's cell went back planted

@@ -1,6 +1,7 @@
 -- What devices that are pulled and teardowns of files make of a stage.
-use Rattle.std.specs.Prelude.{ℕ, ◌==◌, Option, None, Some, Result, Ok, Err, if◌then◌else◌}
+use Rattle.std.specs.Prelude.{ℕ, Bool, true, false, ◌==◌, Option, None, Some, Result, Ok, Err, if◌then◌else◌}
 use Rattle.uv_num.specs.declared.errno.Errno.{Errno}
+use Rattle.uv_num.specs.declared.errno.Errno.TheVariants.{Io}
 use Rattle.uv_machine.specs.declared.entry.Entry.TheVariants as entry
 use Rattle.uv_machine.specs.declared.moves.Move.{Move}
 use Rattle.uv_machine.specs.declared.moves.Move.TheVariants as move
@@ -22,6 +23,11 @@ use Rattle.uv_world.specs.Moving.{actions_in, held_in_slot}
 use Rattle.uv_world.specs.Seating.{GoesBuried}
 use Rattle.uv_world.specs.Stages.{Stage, stage_then}
 
+-- what the pull of a device comes to: one that was pulled before is refused
+abbrev pub pull_of : Bool → Result (Unit {0}) Errno
+pull_of true = Err Io
+pull_of false = Ok tt
+
 abbrev pub stage_unplugged : Stage → ℕ → Result (Unit {0}) Errno → Stage
 stage_unplugged s d (Ok u) = stage_then s (entry.Unplug d)
 stage_unplugged s d (Err e) = s
@@ -42,6 +48,12 @@ pub record StageTurn : Type 0 where
 abbrev pub stage_killed : Stage → ℕ → ℕ → Option Object → StageTurn
 stage_killed s by f None = record { stage = stage_then s (last_entry by f); turn = turn.Done }
 stage_killed s by f (Some x) = record { stage = stage_then s (entry.Kill x.id); turn = turn.Killed x.id x.kind x.handle }
+
+-- the object that a turn has taken out of use
+abbrev pub object_killed : Turn → Option ℕ
+object_killed (turn.Killed object kind handle) = Some object
+object_killed turn.Done = None
+object_killed (turn.NotYet calls) = None
 
 -- a file is swept once no call on it is in flight
 abbrev pub stage_swept : Stage → ℕ → ℕ → StageTurn

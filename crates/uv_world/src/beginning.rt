@@ -35,6 +35,7 @@ impl World {
         ensures stage { stage_of self.new ≡ stage_then (stage_of self.old) (entry.Open client file device result) }
         ensures spares { TakesOneSpare self.old.core self.new.core }
         ensures others { OthersKeep client self.old.core self.new.core }
+        ensures doomed { self.new.doomed ≡ self.old.doomed }
         ensures world { IsWorld self.new }
     {
         fitting_goes_on();
@@ -58,6 +59,7 @@ impl World {
         ensures stage { stage_of self.new ≡ stage_then (stage_of self.old) (entry.Enter client file request result) }
         ensures spares { TakesOneSpare self.old.core self.new.core }
         ensures others { OthersKeep client self.old.core self.new.core }
+        ensures doomed { self.new.doomed ≡ self.old.doomed }
         ensures world { IsWorld self.new }
     {
         fitting_goes_on();
@@ -90,6 +92,7 @@ impl World {
         ensures stage { stage_of self.new ≡ stage_then (stage_of self.old) (entry.Enter client file request result) }
         ensures spares { TakesOneSpare self.old.core self.new.core }
         ensures others { OthersKeep client self.old.core self.new.core }
+        ensures doomed { self.new.doomed ≡ self.old.doomed }
         ensures world { IsWorld self.new }
     {
         fitting_goes_on();

@@ -56,6 +56,7 @@ impl World {
         ensures stage { stage_of self.new ≡ stage_then (stage_of self.old) (step_entry actor result) }
         ensures spares { self.new.core.spares ≡ self.old.core.spares }
         ensures others { OthersKeep actor self.old.core self.new.core }
+        ensures doomed { self.new.doomed ≡ self.old.doomed }
         ensures world { IsWorld self.new }
     {
         fitting_goes_on();

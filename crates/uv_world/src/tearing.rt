@@ -3,7 +3,7 @@
 ghost use Rattle.std.specs.Prelude.{◌≡◌, ◌≢◌, ◌<◌, None, Some, is_some, true};
 ghost use Rattle.uv_num.specs.declared.limits.TheConstants.{DEVICES, DRIVER, FILES};
 ghost use Rattle.uv_machine.specs.Histories.{IsActor, state_of};
-ghost use Rattle.uv_machine.specs.States.{newest_free, phase_of};
+ghost use Rattle.uv_machine.specs.States.{is_unplugged, newest_free, phase_of};
 ghost use Rattle.uv_graph.specs.Conditions.{Pulls};
 ghost use Rattle.uv_graph.specs.Owns.{TearsNone, own_of};
 ghost use Rattle.uv_graph.specs.Turns.{close_of, tear_of};
@@ -14,7 +14,7 @@ ghost use Rattle.uv_world.specs.Holdings.{held_of};
 ghost use Rattle.uv_world.specs.Moving.{held_moved};
 ghost use Rattle.uv_world.specs.Owing.{IsHoused, MoveFits};
 ghost use Rattle.uv_world.specs.Seating.{IsAtRest, IsWorld, stage_of};
-ghost use Rattle.uv_world.specs.Tearing.{LaysDoomed, kill_ahead, object_doomed, stage_gone, stage_swept, stage_torn, stage_unplugged};
+ghost use Rattle.uv_world.specs.Tearing.{LaysDoomed, kill_ahead, object_doomed, object_killed, pull_of, stage_gone, stage_swept, stage_torn, stage_unplugged};
 
 use crate::deeds::{bury_deed, lay, pick};
 use crate::laws::fitting_goes_on;
@@ -47,9 +47,11 @@ impl World {
         requires device { device < DEVICES }
         requires rest { IsAtRest self.old.core self.old.doomed DRIVER }
         requires world { IsWorld self.old }
+        ensures answer { result ≡ pull_of (is_unplugged (state_of self.old.core.history) device) }
         ensures stage { stage_of self.new ≡ stage_unplugged (stage_of self.old) device result }
         ensures spares { self.new.core.spares ≡ self.old.core.spares }
         ensures others { OthersKeep DRIVER self.old.core self.new.core }
+        ensures doomed { self.new.doomed ≡ self.old.doomed }
         ensures world { IsWorld self.new }
     {
         fitting_goes_on();
@@ -70,6 +72,7 @@ impl World {
         ensures leads { TearLeads (own_of self.new.core tearer) file result }
         ensures spares { self.new.core.spares ≡ self.old.core.spares }
         ensures others { OthersKeep tearer self.old.core self.new.core }
+        ensures doomed { self.new.doomed ≡ self.old.doomed }
         ensures world { IsWorld self.new }
     {
         fitting_goes_on();
@@ -91,6 +94,7 @@ impl World {
         ensures leads { TearLeads (own_of self.new.core DRIVER) file result }
         ensures spares { self.new.core.spares ≡ self.old.core.spares }
         ensures others { OthersKeep DRIVER self.old.core self.new.core }
+        ensures doomed { self.new.doomed ≡ self.old.doomed }
         ensures world { IsWorld self.new }
     {
         fitting_goes_on();
@@ -117,6 +121,7 @@ impl World {
         ensures stage { record { stage = stage_of self.new; turn = result } ≡ stage_swept (stage_of self.old) tearer file }
         ensures spares { self.new.core.spares ≡ self.old.core.spares }
         ensures others { OthersKeep tearer self.old.core self.new.core }
+        ensures doomed { object_doomed (value_of_slot self.new.doomed tearer) ≡ object_killed result }
         ensures world { IsWorld self.new }
     {
         fitting_goes_on();
@@ -165,6 +170,7 @@ impl World {
         ensures stage { stage_of self.new ≡ stage_gone (stage_of self.old) file result }
         ensures spares { self.new.core.spares ≡ self.old.core.spares }
         ensures others { OthersKeep tearer self.old.core self.new.core }
+        ensures none { value_of_slot self.new.doomed tearer ≡ None }
         ensures world { IsWorld self.new }
     {
         fitting_goes_on();

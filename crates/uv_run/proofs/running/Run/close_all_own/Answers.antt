@@ -13,7 +13,7 @@ loop-file-preserved c =
     let inv = c.loop-file.invariant in
     let e = c.in_ok-close_own.ensures in (
       Chain-below (ClosesOwn c.args.line c.args.client) c.loop-file.file (stand_of c.args.self.now) (stand_of c.loop-file.self) (stand_of c.close_own.new.self) inv.0 e.closes,
-      stays_then c.args.self.now.world c.loop-file.self.world c.close_own.new.self.world inv.1 e.sound,
+      stays_then c.args.self.now.flights c.loop-file.self.flights c.close_own.new.self.flights inv.1 e.sound,
       e.free,
     )
 

@@ -18,9 +18,9 @@ loop-file-preserved c =
     let inv = c.loop-file.invariant in
     let e = c.in_ok-end_open.ensures in (
       Chain-below EndsFile c.loop-file.file (stand_of c.args.self.now) (stand_of c.loop-file.self) (stand_of c.end_open.new.self) inv.0 e.ends,
-      stays_then c.args.self.now.world c.loop-file.self.world c.end_open.new.self.world inv.1 e.sound,
-      idle_stays (site_of c.loop-file.self.world) (site_of c.end_open.new.self.world) ENDER inv.2 e.sound.idle,
-      ending_more (state_of c.loop-file.self.world.core.history) (state_of c.end_open.new.self.world.core.history) c.loop-file.file inv.3 e.sound.ends e.ended,
+      stays_then c.args.self.now.flights c.loop-file.self.flights c.end_open.new.self.flights inv.1 e.sound,
+      idle_stays (site_of c.loop-file.self.flights) (site_of c.end_open.new.self.flights) ENDER inv.2 e.sound.idle,
+      ending_more (state_of c.loop-file.self.flights.world.core.history) (state_of c.end_open.new.self.flights.world.core.history) c.loop-file.file inv.3 e.sound.ends e.ended,
     )
 
 pub returns-clause-ends : goal.returns-clause-ends
@@ -30,10 +30,10 @@ returns-clause-ends c =
     subst P (let e : c.loop-file.file ≡ FILES = omega arith in e) c.loop-file.invariant.0
 
 pub returns-clause-idle : goal.returns-clause-idle
-returns-clause-idle c = let inv = c.loop-file.invariant in all_idle c.loop-file.self.world inv.1.sound inv.2
+returns-clause-idle c = let inv = c.loop-file.invariant in all_idle c.loop-file.self.flights inv.1.sound inv.2
 
 pub returns-clause-over : goal.returns-clause-over
 returns-clause-over c =
     let inv = c.loop-file.invariant in
-    let P : ℕ → Type 0 = λ n. (g : ℕ) → g < n → is_ending (phase_of (state_of c.loop-file.self.world.core.history) g) ≡ true in
-    all_over c.loop-file.self.world inv.1.sound inv.2 (subst P (let e : c.loop-file.file ≡ FILES = omega arith in e) inv.3)
+    let P : ℕ → Type 0 = λ n. (g : ℕ) → g < n → is_ending (phase_of (state_of c.loop-file.self.flights.world.core.history) g) ≡ true in
+    all_over c.loop-file.self.flights inv.1.sound inv.2 (subst P (let e : c.loop-file.file ≡ FILES = omega arith in e) inv.3)

@@ -11,5 +11,5 @@ use Rattle.uv_run.proofs.running.Run.end.Given as goal
 
 abbrev pub invariant-loop-file : goal.invariant-loop-file
 invariant-loop-file l =
-    EndsAll (stand_of l.initial.self) (range_with_len 0 l.file) (stand_of l.self) × StaysSound l.initial.self.world l.self.world × AreIdle (site_of l.self.world) ENDER
-    × ((g : ℕ) → g < l.file → is_ending (phase_of (state_of l.self.world.core.history) g) ≡ true)
+    EndsAll (stand_of l.initial.self) (range_with_len 0 l.file) (stand_of l.self) × StaysSound l.initial.self.flights l.self.flights × AreIdle (site_of l.self.flights) ENDER
+    × ((g : ℕ) → g < l.file → is_ending (phase_of (state_of l.self.flights.world.core.history) g) ≡ true)

@@ -17,8 +17,8 @@ loop-before-preserved c =
     let inv = c.loop-before.invariant in
     let e = c.in_ok-run_out.ensures in (
       Chain-upto (RunsOut ToEnd) c.loop-before.before (stand_of c.args.self.now) (stand_of c.loop-before.self) (stand_of c.run_out.new.self) inv.0 e.runs,
-      idle_more (site_of c.loop-before.self.world) (site_of c.run_out.new.self.world) c.loop-before.before inv.1 e.sound.idle e.runs.ended,
-      stays_then c.args.self.now.world c.loop-before.self.world c.run_out.new.self.world inv.2 e.sound,
+      idle_more (site_of c.loop-before.self.flights) (site_of c.run_out.new.self.flights) c.loop-before.before inv.1 e.sound.idle e.runs.ended,
+      stays_then c.args.self.now.flights c.loop-before.self.flights c.run_out.new.self.flights inv.2 e.sound,
     )
 
 pub returns-clause-finishes : goal.returns-clause-finishes
@@ -30,4 +30,4 @@ returns-clause-finishes c =
 pub returns-clause-idle : goal.returns-clause-idle
 returns-clause-idle c =
     let inv = c.loop-before.invariant in
-    idle_more (site_of c.loop-before.self.world) (site_of c.loop-before.self.world) DRIVER (idle_at (site_of c.loop-before.self.world) c.loop-before.before DRIVER (omega arith) inv.1) (λ b is. is) (inv.2.idle ENDER c.requires.ender)
+    idle_more (site_of c.loop-before.self.flights) (site_of c.loop-before.self.flights) DRIVER (idle_at (site_of c.loop-before.self.flights) c.loop-before.before DRIVER (omega arith) inv.1) (λ b is. is) (inv.2.idle ENDER c.requires.ender)

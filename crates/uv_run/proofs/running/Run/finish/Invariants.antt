@@ -7,4 +7,4 @@ use Rattle.uv_run.specs.Sound.{site_of}
 use Rattle.uv_run.proofs.running.Run.finish.Given as goal
 
 abbrev pub invariant-loop-before : goal.invariant-loop-before
-invariant-loop-before l = RunsOutAll ToEnd (stand_of l.initial.self) (range_with_len 1 l.before) (stand_of l.self) × AreIdle (site_of l.self.world) l.before × StaysSound l.initial.self.world l.self.world
+invariant-loop-before l = RunsOutAll ToEnd (stand_of l.initial.self) (range_with_len 1 l.before) (stand_of l.self) × AreIdle (site_of l.self.flights) l.before × StaysSound l.initial.self.flights l.self.flights

@@ -26,4 +26,4 @@ returns-clause-plays c =
 
 pub returns-clause-sound : goal.returns-clause-sound
 returns-clause-sound c =
-    on_ok c.begin_task.result _ _ (λ goes. then_goes c.args.self.now.world c.run_out.new.self.world c.begin_task.new.self.world c.in_ok-run_out.ensures.sound goes) c.begin_task.ensures.sound
+    on_ok c.begin_task.result _ _ (λ goes. then_goes c.args.self.now.flights c.run_out.new.self.flights c.begin_task.new.self.flights c.in_ok-run_out.ensures.sound goes) c.begin_task.ensures.sound

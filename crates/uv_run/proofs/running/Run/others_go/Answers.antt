@@ -8,7 +8,7 @@ use Rattle.uv_run.proofs.running.Run.others_go.Goals as goal
 
 pub loop-before-init : goal.loop-before-init
 unfolding others_of
-loop-before-init c = (refl, lowers_none (site_of c.args.self.now.world) c.args.actor c.args.file, stays_sound c.args.self.now.world c.requires.sound)
+loop-before-init c = (refl, lowers_none (site_of c.args.self.now.flights) c.args.actor c.args.file, stays_sound c.args.self.now.flights c.requires.sound)
 
 pub loop-before-preserved : goal.loop-before-preserved
 unfolding others_of
@@ -18,6 +18,6 @@ loop-before-preserved c =
     let n : ℕ = c.loop-before.before in
     let more : suc n ≡ n + 1 = omega arith in (
       e.stand ∙ ap (λ s. other_goes s c.args.actor c.args.file (n + 1)) inv.0 ∙ ap (λ (k : ℕ). others_of k (stand_of c.args.self.now) c.args.actor c.args.file) more,
-      lowers_more (site_of c.args.self.now.world) (site_of c.loop-before.self.world) (site_of c.other_goes.new.self.world) c.args.actor c.args.file n inv.1 e.lowers,
-      stays_then c.args.self.now.world c.loop-before.self.world c.other_goes.new.self.world inv.2 e.sound,
+      lowers_more (site_of c.args.self.now.flights) (site_of c.loop-before.self.flights) (site_of c.other_goes.new.self.flights) c.args.actor c.args.file n inv.1 e.lowers,
+      stays_then c.args.self.now.flights c.loop-before.self.flights c.other_goes.new.self.flights inv.2 e.sound,
     )

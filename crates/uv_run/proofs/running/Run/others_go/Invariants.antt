@@ -6,4 +6,4 @@ use Rattle.uv_run.specs.Sound.{site_of}
 use Rattle.uv_run.proofs.running.Run.others_go.Given as goal
 
 abbrev pub invariant-loop-before : goal.invariant-loop-before
-invariant-loop-before l = (stand_of l.self ≡ others_of l.before (stand_of l.initial.self) l.actor l.file) × Lowers (site_of l.initial.self.world) (site_of l.self.world) l.actor l.file l.before × StaysSound l.initial.self.world l.self.world
+invariant-loop-before l = (stand_of l.self ≡ others_of l.before (stand_of l.initial.self) l.actor l.file) × Lowers (site_of l.initial.self.flights) (site_of l.self.flights) l.actor l.file l.before × StaysSound l.initial.self.flights l.self.flights

@@ -26,4 +26,4 @@ returns-clause-plays c =
 
 pub returns-clause-sound : goal.returns-clause-sound
 returns-clause-sound c =
-    on_ok c.run_task.result _ _ (λ goes. then_goes c.args.self.now.world c.run_out.new.self.world c.run_task.new.self.world c.in_ok-run_out.ensures.sound goes) c.run_task.ensures.sound
+    on_ok c.run_task.result _ _ (λ goes. then_goes c.args.self.now.flights c.run_out.new.self.flights c.run_task.new.self.flights c.in_ok-run_out.ensures.sound goes) c.run_task.ensures.sound

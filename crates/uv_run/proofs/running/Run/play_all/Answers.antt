@@ -10,7 +10,7 @@ loop-place-preserved c =
     let e = c.in_ok-play.ensures in (
       marks_more (stand_of c.args.self.now) c.args.script.now c.loop-place.place (stand_of c.loop-place.self) c.line.result.now (stand_of c.play.new.self) c.loop-place.marks c.push.new.self c.entries.result c.line.ensures.line inv.0 e.plays c.entries.ensures c.in_ok-push.ensures.ok,
       ranges_more c.args.script.now c.loop-place.place c.line.result.now c.line.ensures.line c.line.ensures.ranges inv.1,
-      room_more c.args.script.now c.loop-place.place c.loop-place.self.world.core c.play.new.self.world.core inv.2 e.sound.spares,
+      room_more c.args.script.now c.loop-place.place c.loop-place.self.flights.world.core c.play.new.self.flights.world.core inv.2 e.sound.spares,
       e.sound.ender inv.3,
       e.sound.sound,
     )

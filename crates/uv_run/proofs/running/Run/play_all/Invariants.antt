@@ -11,5 +11,5 @@ use Rattle.uv_run.proofs.running.Run.play_all.Given as goal
 
 abbrev pub invariant-loop-place : goal.invariant-loop-place
 invariant-loop-place l =
-    PlaysMarks (stand_of l.initial.self) (take l.place l.script) (stand_of l.self) l.marks × All IsInRange (take l.place l.script) × HasRoomFor l.script l.place l.self.world.core
-    × (is_busy (site_of l.self.world) ENDER ≡ false) × IsSound l.self.world
+    PlaysMarks (stand_of l.initial.self) (take l.place l.script) (stand_of l.self) l.marks × All IsInRange (take l.place l.script) × HasRoomFor l.script l.place l.self.flights.world.core
+    × (is_busy (site_of l.self.flights) ENDER ≡ false) × IsSound l.self.flights

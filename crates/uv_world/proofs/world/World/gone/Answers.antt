@@ -12,7 +12,7 @@ use Rattle.uv_machine.specs.declared.moves.Slot.TheVariants.{OfTeardown}
 use Rattle.uv_world.specs.Seating.{stage_of}
 use Rattle.uv_world.specs.Owing.{MoveFits}
 use Rattle.uv_world.proofs.Ranged.{gone_fits}
-use Rattle.uv_world.proofs.Seating.{call_same}
+use Rattle.uv_world.proofs.Seating.{call_same, slot_emptied}
 use Rattle.uv_world.proofs.Starting.{stage_same}
 use Rattle.uv_world.proofs.Staying.{fits_after}
 use Rattle.uv_world.proofs.Torn.{doomed_by, doomed_idle, gone_object, releasing_is, seated_gone}
@@ -42,6 +42,9 @@ returns-clause-stage c =
 
 pub returns-clause-spares : goal.returns-clause-spares
 returns-clause-spares c = c.gone.ensures.releases.notes.spares
+
+pub returns-clause-none : goal.returns-clause-none
+returns-clause-none c = ap (λ v. value_of_slot v c.args.tearer) c.pick.ensures.rest ∙ slot_emptied c.args.self.now.doomed c.args.tearer
 
 pub returns-clause-world : goal.returns-clause-world
 returns-clause-world c =

@@ -1,4 +1,4 @@
-use Rattle.std.proofs.Common.{◌∙◌, ap, refl, sym, subst}
+use Rattle.std.proofs.Common.{◌∙◌, ap, arith, refl, sym, subst}
 use Rattle.uv_machine.specs.declared.entry.Entry.TheVariants as entry
 use Rattle.uv_machine.specs.Histories.{IsLegal, state_of}
 use Rattle.uv_machine.specs.States.{newest_free}
@@ -10,9 +10,10 @@ use Rattle.uv_world.specs.Fitting.{StageFits}
 use Rattle.uv_world.specs.Holdings.{held_of}
 use Rattle.uv_world.specs.Owing.{MoveFits}
 use Rattle.uv_world.specs.Seating.{AreSeated, stage_of}
+use Rattle.uv_world.specs.Tearing.{object_doomed}
 use Rattle.uv_world.proofs.Seating.{call_same, none_killed}
 use Rattle.uv_world.proofs.Staying.{fits_swept}
-use Rattle.uv_world.proofs.Torn.{ahead_fits, done_turned, kill_object, kill_turned, killed_id, seated_done, seated_killed, turn_kept, waits_turned}
+use Rattle.uv_world.proofs.Torn.{ahead_fits, done_turned, kill_object, kill_turned, killed_id, killed_lies, seated_done, seated_killed, turn_kept, waits_turned}
 use Rattle.uv_world.proofs.world.World.sweep.Goals as goal
 
 pub sweep-requires : goal.sweep-requires
@@ -61,6 +62,17 @@ returns-in-Kill-clause-world c =
           (ap (λ (v : Kept). v.history) c.doom.ensures.core ∙ g.hands.notes.history) c.doom.ensures.held c.kill_ahead-step.ensures)
           (subst L (sym c.doom.ensures.core) c.sweep.ensures.legal) c.requires.world.fits;
     }
+
+pub returns-in-Kill-clause-doomed : goal.returns-in-Kill-clause-doomed
+returns-in-Kill-clause-doomed c =
+    let old = c.args.self.now in
+    killed_lies c.args.tearer c.in-Kill.object old.doomed c.doom.new.self.doomed c.in-Kill.deed (omega (arith, c.requires.world.seated.doomed_size, c.requires.actor.1)) c.doom.ensures.doomed
+
+pub returns-in-Done-clause-doomed : goal.returns-in-Done-clause-doomed
+returns-in-Done-clause-doomed c = ap object_doomed c.requires.rest.doomed_none
+
+pub returns-in-NotYet-clause-doomed : goal.returns-in-NotYet-clause-doomed
+returns-in-NotYet-clause-doomed c = ap object_doomed c.requires.rest.doomed_none
 
 pub returns-in-Done-clause-stage : goal.returns-in-Done-clause-stage
 returns-in-Done-clause-stage c =

@@ -1,7 +1,10 @@
-use Rattle.uv_world.proofs.Torn.{unplug_seated, unplug_spares, unplug_stage}
+use Rattle.uv_world.proofs.Torn.{unplug_answer, unplug_seated, unplug_spares, unplug_stage}
 use Rattle.uv_world.specs.Seating.{stage_of}
 use Rattle.uv_world.proofs.Staying.{fits_unplugged}
 use Rattle.uv_world.proofs.world.World.unplug.Goals as goal
+
+pub returns-clause-answer : goal.returns-clause-answer
+returns-clause-answer c = unplug_answer c.args.self.now.core c.unplug.new.self c.args.device c.unplug.result c.unplug.ensures.gives
 
 pub returns-clause-stage : goal.returns-clause-stage
 returns-clause-stage c = unplug_stage c.args.self.now c.unplug.new.self c.args.device c.unplug.result c.unplug.ensures.gives

@@ -1,0 +1,9 @@
+use Rattle.std.proofs.Common.{refl}
+use Rattle.uv_run.proofs.Starts.{start_is, start_sound}
+use Rattle.uv_run.proofs.flights.Flights.new.Goals as goal
+
+pub returns-clause-site : goal.returns-clause-site
+returns-clause-site c = start_is c.in_ok-new.field-0 c.in_ok-new.ensures
+
+pub returns-clause-sound : goal.returns-clause-sound
+returns-clause-sound c = start_sound _ c.in_ok-new.ensures refl refl c.in_ok-none_out.ensures.size c.in_ok-none_out-2.ensures.size c.in_ok-none_out.ensures.none c.in_ok-none_out-2.ensures.none
