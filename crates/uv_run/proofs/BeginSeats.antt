@@ -40,8 +40,7 @@ use Rattle.uv_run.proofs.Seated.{Apart, SeatOf, Seated, SeatedAt, legal_front, n
 use Rattle.uv_run.proofs.Shapes.{Over, Tearing, close_shape}
 use Rattle.uv_run.proofs.Sitting.{Sits, SitsBy, asked_other, asked_own, rests, sits_moved}
 use Rattle.uv_run.proofs.Sitting.Sits.{Rests, InCall, InTear}
-use Rattle.uv_run.proofs.Sounds.{slot_other}
-use Rattle.uv_run.proofs.TearSounds.{put_there}
+use Rattle.uv_run.proofs.Sounds.{put_there, slot_other}
 
 -- Whose close isn't told.
 

@@ -29,7 +29,7 @@ use Rattle.uv_run.specs.Site.{killed_of, teardown_of, torn_by}
 use Rattle.uv_run.specs.Sound.{FitsIn, IsSound, Moved, TeardownFits, TearsOnly, site_of}
 use Rattle.uv_run.proofs.Ending.{ends_entry, moved_none}
 use Rattle.uv_run.proofs.MachineLaws.{phases_stand_apart, state_goes_on}
-use Rattle.uv_run.proofs.Sounds.{doomed_is, kept_by, more_of, moved_after, stay_same}
+use Rattle.uv_run.proofs.Sounds.{doomed_is, kept_by, more_of, moved_after, object_kept, stay_same}
 use Rattle.uv_run.proofs.Tears.{torn_stays}
 
 -- The last entry of a legal history is allowed where it stands.
@@ -89,7 +89,7 @@ pub kept_same : (old new : Flights) (a : ℕ) → IsSound old → IsWorld new.wo
 kept_same old new a sound world doomed killed teardown suits =
     let T : Option Teardown → Type 0 = λ v. TeardownFits (own_of new.world.core a) v in
     record {
-      kills = kept_by (own_of new.world.core a) (value_of_slot new.world.doomed a) (killed_of (site_of new) a) (world.seated.seats a).doomed_is (doomed ∙ (doomed_is old a sound ∙ sym (ap _ killed)));
+      kills = kept_by (own_of new.world.core a) (value_of_slot new.world.doomed a) (killed_of (site_of new) a) (world.seated.seats a).doomed_is (doomed ∙ (doomed_is old a sound ∙ sym (ap object_kept killed)));
       suits = subst T (sym teardown) suits;
     }
 

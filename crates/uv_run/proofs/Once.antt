@@ -8,7 +8,7 @@ use Rattle.uv_run.specs.declared.flight.Teardown.{Teardown}
 use Rattle.uv_run.specs.declared.reply.Reply.{Reply}
 use Rattle.uv_run.specs.declared.reply.Telling.{Telling}
 use Rattle.uv_run.specs.declared.reply.Telling.TheVariants as telling
-use Rattle.uv_run.specs.Site.{Site, state_at, teardown_of, is_busy, silence, teardown_turn, turn_by, event_of}
+use Rattle.uv_run.specs.Site.{Site, found_of, kept_at, state_at, teardown_of, is_busy, silence, teardown_turn, turn_by, event_of}
 use Rattle.uv_run.specs.Stand.{Stand, begun_by}
 use Rattle.uv_run.specs.Turns.{after_waiting, one_turn, turns_of, RunsOut}
 
@@ -23,7 +23,7 @@ pub idle_event : (s : Site) (a : ℕ) → is_busy s a ≡ false → event_of s a
 unfolding event_of
 idle_event s a e =
     let parts = idle_parts (call_of (state_at s) a) (teardown_of s a) e in
-    ap (λ v. turn_by s a (next_from (state_at s) a None 0 v)) parts.0 ∙ ap (teardown_turn s a) parts.1
+    ap (λ v. turn_by s a (next_from (state_at s) a (found_of s a) (kept_at s a) v)) parts.0 ∙ ap (teardown_turn s a) parts.1
 
 unfoldable stand_with : Stand → List Reply → List Said → Stand
 stand_with s replies said = record { site = s.site; begun = s.begun; replies = replies; said = said }

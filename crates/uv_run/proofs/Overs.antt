@@ -26,8 +26,9 @@ use Rattle.uv_run.specs.declared.flights.Flights.{Flights}
 use Rattle.uv_run.specs.Ends.{AreIdle}
 use Rattle.uv_run.specs.Runs.{StaysIdle}
 use Rattle.uv_run.specs.Site.{Site, close_turn, closes, is_busy, state_at, teardown_of, torn_by, with_teardown}
-use Rattle.uv_run.specs.Sound.{CallIsSound, EndsStay, IsSound, TeardownFits, is_ending, site_of}
+use Rattle.uv_run.specs.Sound.{EndsStay, IsSound, TeardownFits, is_ending, site_of}
 use Rattle.uv_run.proofs.Beginnings.{idle_call, idle_teardown}
+use Rattle.uv_run.proofs.CallSounds.{client_of_call}
 use Rattle.uv_run.proofs.MachineLaws.{state_goes_on}
 use Rattle.uv_run.proofs.Tears.{torn_none}
 
@@ -46,8 +47,7 @@ module _ (w : Flights) (sound : IsSound w) (idle : AreIdle (site_of w) ENDER) wh
   no_call : (b : ℕ) (slot : Option InFlight) → call_of (state_of w.world.core.history) b ≡ slot → slot ≡ None
   no_call b None is = refl
   no_call b (Some call) is =
-      let P : Option InFlight → Type 0 = λ v. CallIsSound b v in
-      let client = (subst P is (sound.fits b).call).0 in
+      let client = client_of_call w b call sound is in
       let low : b ≤ ENDER = omega (arith, client.1) in
       sym is ∙ idle_call w b (idle b client.0 low)
 
@@ -98,7 +98,7 @@ module _ (w : Flights) (sound : IsSound w) (idle : AreIdle (site_of w) ENDER) wh
   over_at f None is ends = refl
   over_at f (Some x) is ends =
       let low = slice_get_within (state_of w.world.core.history).files f x is in
-      let size = (Reached-state_of w.world.core.history sound.legal).files in
+      let size = (Reached-state_of w.world.core.history sound.world.seated.legal).files in
       let phase : phase_of (state_of w.world.core.history) f ≡ x.phase = ap phase_in is in
       over_of f x.phase phase (sym (ap is_ending phase) ∙ ends f (omega (arith, low, size)))
 

@@ -14,6 +14,7 @@ use Rattle.uv_machine.specs.States.{call_of}
 use Rattle.uv_graph.specs.declared.out.Own.{Own}
 use Rattle.uv_graph.specs.Conditions.{IsClient}
 use Rattle.uv_graph.specs.Kept.{Kept, spare_of}
+use Rattle.uv_world.specs.Seating.{TakesOneSpare}
 use Rattle.uv_script.specs.declared.form.Deed.{Deed}
 use Rattle.uv_script.specs.declared.form.Deed.TheVariants as deed
 use Rattle.uv_script.specs.declared.form.Line.{Line}
@@ -30,7 +31,7 @@ use Rattle.uv_run.specs.Ranges.{IsInDeed, IsInReach}
 use Rattle.uv_run.specs.Runs.{GoesSound, StaysIdle, StaysSound}
 use Rattle.uv_run.specs.Ends.{AreIdle}
 use Rattle.uv_run.specs.Site.{Site, Turned, is_busy, teardown_of}
-use Rattle.uv_run.specs.Sound.{Began, HasSpares, IsSound, Moved, SparesOne, site_of}
+use Rattle.uv_run.specs.Sound.{Began, HasSpares, IsSound, Moved, site_of}
 use Rattle.uv_run.specs.Stand.{Stand, after_turned, with_begun}
 use Rattle.uv_run.specs.Turns.{RunsOut, after_waiting, awaited, others_if}
 
@@ -53,7 +54,7 @@ pub stays_then : (old mid new : Flights) → StaysSound old mid → StaysSound m
 stays_then old mid new first second =
     record { sound = second.sound; spares = second.spares ∙ first.spares; idle = λ b is. second.idle b (first.idle b is); ends = λ f is. second.ends f (first.ends f is) }
 
-spares_same : (old new : Kept) → new.spares ≡ old.spares → SparesOne old new
+spares_same : (old new : Kept) → new.spares ≡ old.spares → TakesOneSpare old new
 spares_same old new same c = let e : spare_of new c ≡ spare_of old c = ap (λ (v : List ℕ). unwrap_or (slice_get v c) 0) same in omega (arith, e)
 
 pub stays_goes : (old new : Flights) → StaysSound old new → GoesSound old new
@@ -135,7 +136,7 @@ ranges_more lines place l at range all =
     in
     subst (All IsInRange) (sym front) (All-append IsInRange (take place lines) (l ∷ []) all (one_range l range))
 
-pub room_more : (lines : List Line) (place : ℕ) (old new : Kept) → HasRoomFor lines place old → SparesOne old new → HasRoomFor lines (place + 1) new
+pub room_more : (lines : List Line) (place : ℕ) (old new : Kept) → HasRoomFor lines place old → TakesOneSpare old new → HasRoomFor lines (place + 1) new
 room_more lines place old new room one c client = let a = room c client in let b = one c in omega (arith, a, b)
 
 -- who may do something is an actor

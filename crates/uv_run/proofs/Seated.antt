@@ -4,6 +4,7 @@ use Rattle.std.specs.Prelude.{◌≢◌, ◌⊎◌, ◌==◌, ◌||◌, not, is_
 use Rattle.std.proofs.lemmas.Bool.{eq-eqb, ne_eqb}
 use Rattle.std.proofs.lemmas.Bool.Decides.{eqb_tells}
 use Rattle.uv_num.specs.declared.limits.TheConstants.{ACTORS, ACTOR_PLACES, DRIVER}
+use Rattle.uv_num.specs.declared.qp.QpState.{QpState}
 use Rattle.uv_machine.specs.declared.call.InFlight.{InFlight}
 use Rattle.uv_machine.specs.declared.entry.Answer.{Answer}
 use Rattle.uv_machine.specs.declared.entry.CallStep.{CallStep}
@@ -201,12 +202,12 @@ step_sum asked m s a d is unended (inr end) sits =
 
 -- An event.
 
-next_none : (m : State) (c : ℕ) (d : CallStep) (slot : Option InFlight) → slot ≡ None → next_from m c None 0 slot ≡ Some d → ⊥
-next_none m c d None e is = cc
-next_none m c d (Some call) e is = cc
+next_none : (m : State) (c : ℕ) (found : Option QpState) (kept : ℕ) (d : CallStep) (slot : Option InFlight) → slot ≡ None → next_from m c found kept slot ≡ Some d → ⊥
+next_none m c found kept d None e is = cc
+next_none m c found kept d (Some call) e is = cc
 
 has_call : (s : Site) (a : ℕ) (d : CallStep) → IsLegal s.history → next_of (state_at s) a (found_of s a) (kept_at s a) ≡ Some d → unanswered (calls_of s.history a) ≢ []
-has_call s a d legal is none = next_none (state_at s) a d (call_of (state_at s) a) (idle_items s.history a legal none) is
+has_call s a d legal is none = next_none (state_at s) a (found_of s a) (kept_at s a) d (call_of (state_at s) a) (idle_items s.history a legal none) is
 
 own_turn :
     (b : Bool) (asked : List Asking) (m : Telling) (s : Stand) (a : ℕ) (d : Option CallStep) → b ≡ is_told m → IsLegal s.site.history → next_of (state_at s.site) a (found_of s.site a) (kept_at s.site a) ≡ d → SeatOf b asked s a

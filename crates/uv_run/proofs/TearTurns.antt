@@ -3,6 +3,7 @@ use Rattle.std.proofs.Common.{◌≡◌, ℕ, Bool, true, false, List, [], ◌�
 use Rattle.std.specs.Prelude.{◌≢◌, ◌==◌, ◌&&◌, if◌then◌else◌, reverse}
 use Rattle.std.proofs.lemmas.Bool.{eqb-true, eq-eqb, ne_eqb}
 use Rattle.std.proofs.lemmas.Bool.Decides.{eqb_tells}
+use Rattle.uv_num.specs.declared.errno.Errno.{Errno}
 use Rattle.uv_num.specs.declared.errno.Errno.TheVariants.{BadF}
 use Rattle.uv_num.specs.declared.kind.Kind.{Kind}
 use Rattle.uv_num.specs.declared.limits.TheConstants.{DRIVER}
@@ -64,9 +65,28 @@ close_waits s a f n (file.Tearing by) e = waits_by s a f by n (by == DRIVER) ref
 close_waits s a f n file.Dissociated e = absurd (cc)
 close_waits s a f n file.Closed e = absurd (cc)
 
-refused_by : (s : Site) (a f by : ℕ) (x : Torn) (v : Bool) → (by == DRIVER) ≡ v → (if v then torn.NotYet DRIVER else torn.Refused BadF) ≡ x → x ≡ torn.Refused BadF → torn_turn s a f by ≡ no_close s a
-refused_by s a f by x true is e r = absurd (cc)
-refused_by s a f by x false is e r = ap (λ (v : Bool). if v then record { site = s; heard = goes_on (event.TornBy f by) } else no_close s a) is
+refused_if : (s : Site) (a f by : ℕ) (x : Errno) (v : Bool) → (by == DRIVER) ≡ v → (if v then torn.NotYet DRIVER else torn.Refused BadF) ≡ torn.Refused x → torn_turn s a f by ≡ no_close s a
+refused_if s a f by x true is e = absurd (cc)
+refused_if s a f by x false is e = ap (λ (v : Bool). if v then record { site = s; heard = goes_on (event.TornBy f by) } else no_close s a) is
+
+pub close_refused : (s : Site) (a f : ℕ) (e : Errno) (p : FilePhase) → close_of p ≡ torn.Refused e → close_turn s a f p ≡ no_close s a
+close_refused s a f e file.Fresh is = refl
+close_refused s a f e file.Open is = absurd (cc)
+close_refused s a f e (file.Tearing by) is = refused_if s a f by e (by == DRIVER) refl is
+close_refused s a f e file.Dissociated is = absurd (cc)
+close_refused s a f e file.Closed is = refl
+
+waited_if : (by n : ℕ) (v : Bool) → (by == DRIVER) ≡ v → (if v then torn.NotYet DRIVER else torn.Refused BadF) ≡ torn.NotYet n → by ≡ n
+waited_if by n true is e = eqb-true by DRIVER is ∙ (let k : DRIVER ≡ n = cc in k)
+waited_if by n false is e = absurd (cc)
+
+-- who is waited for tears the file
+pub close_waited : (n : ℕ) (p : FilePhase) → close_of p ≡ torn.NotYet n → p ≡ file.Tearing n
+close_waited n file.Fresh e = absurd (cc)
+close_waited n file.Open e = absurd (cc)
+close_waited n (file.Tearing by) e = ap (λ (v : ℕ). file.Tearing v) (waited_if by n (by == DRIVER) refl e)
+close_waited n file.Dissociated e = absurd (cc)
+close_waited n file.Closed e = absurd (cc)
 
 -- What an actor tears, after its tear of a file.
 

@@ -21,8 +21,9 @@ use Rattle.uv_run.specs.declared.heard.Event.TheVariants as event
 use Rattle.uv_run.specs.declared.flights.Flights.{Flights}
 use Rattle.uv_run.specs.Progress.{AllStuck, IsStuck, StuckOn, WaitsForCalls, WaitsForTear}
 use Rattle.uv_run.specs.Site.{Site, is_busy, state_at, teardown_of, torn_by}
-use Rattle.uv_run.specs.Sound.{CallIsSound, FitsIn, IsSound, TeardownFits, TearsOnly, site_of}
+use Rattle.uv_run.specs.Sound.{FitsIn, IsSound, TeardownFits, TearsOnly, site_of}
 use Rattle.uv_run.specs.Turns.{awaited, is_on, is_teardown_on}
+use Rattle.uv_run.proofs.CallSounds.{client_of_call}
 use Rattle.uv_run.proofs.Tears.{tearing_is, torn_none, torn_some}
 
 -- A call that is counted is somebody's.
@@ -73,9 +74,7 @@ or_second false q e = e
 
 module _ (w : Flights) (sound : IsSound w) where
   client_call : (b : ℕ) (call : InFlight) → call_of (state_of w.world.core.history) b ≡ Some call → (1 ≤ b) × (b ≤ CLIENTS)
-  client_call b call is =
-      let P : Option InFlight → Type 0 = λ v. CallIsSound b v in
-      (subst P is (sound.fits b).call).0
+  client_call b call is = client_of_call w b call sound is
 
   -- not all are stuck on a file that has calls
   no_calls : (a f : ℕ) → call_of (state_of w.world.core.history) a ≡ None → AllStuck (site_of w) a f ACTORS → (calls_on (state_of w.world.core.history) f == 0) ≡ false → ⊥

@@ -46,7 +46,7 @@ returns c =
         legal = c.into_record.ensures.legal;
         idle = subst I (sym history) c.in_ok-end.ensures.idle;
         over = subst O (sym history) c.in_ok-end.ensures.over;
-        answers = subst A (sym history) (answers_all lines played finished ended asked c.in_ok-marks.ensures.ranges c.in_ok-end.ensures.sound.sound.legal
+        answers = subst A (sym history) (answers_all lines played finished ended asked c.in_ok-marks.ensures.ranges c.in_ok-end.ensures.sound.sound.world.seated.legal
             (λ b first last. c.in_ok-end.ensures.sound.idle b (c.in_ok-finish.ensures.idle b first last)) plays c.in_ok-finish.ensures.finishes c.in_ok-end.ensures.ends);
         tells = subst T (sym replies) (tells_all lines played finished ended asked plays c.in_ok-finish.ensures.finishes c.in_ok-end.ensures.ends);
       };
