@@ -1,12 +1,12 @@
 -- Sites stay sound where something begins.
-use Rattle.std.proofs.Common.{◌≡◌, ℕ, zero, suc, ◌<◌, ◌≤◌, ◌+◌, Bool, true, false, List, [], ◌∷◌, ◌++◌, Option, Some, None, length, slice_get, unwrap_or, refl, ap, sym, ◌∙◌, subst, arith, inl, inr, ⊎_elim}
+use Rattle.std.proofs.Common.{◌≡◌, ℕ, zero, suc, ◌<◌, ◌≤◌, ◌+◌, Bool, true, false, List, [], ◌∷◌, ◌++◌, Option, Some, None, Ok, Err, length, slice_get, unwrap_or, refl, ap, sym, ◌∙◌, subst, arith, inl, inr, ⊎_elim}
 use Rattle.std.specs.Prelude.{◌≢◌, ◌==◌, map, not, option_map, if◌then◌else◌}
 use Rattle.std.proofs.lemmas.Bool.{eq-eqb}
 use Rattle.std.proofs.lemmas.Bool.Decides.{eqb_tells}
 use Rattle.uv_num.specs.Place.{at_place}
 use Rattle.uv_num.proofs.PlaceLaws.{length-at_place, slice_get-at_place_same}
 use Rattle.uv_num.specs.declared.errno.Errno.{Errno}
-use Rattle.uv_num.specs.declared.errno.Errno.TheVariants.{Inval, NoMem}
+use Rattle.uv_num.specs.declared.errno.Errno.TheVariants.{Inval, Io, NoMem}
 use Rattle.uv_num.specs.declared.limits.TheConstants.{DEVICES, DRIVER, FILES}
 use Rattle.uv_num.specs.declared.request.Request.{Request}
 use Rattle.uv_machine.specs.declared.entry.Answer.{Answer}
@@ -33,17 +33,20 @@ use Rattle.uv_world.specs.declared.world.World.{World}
 use Rattle.uv_world.specs.Celled.{value_of_slot}
 use Rattle.uv_world.specs.Seating.{IsAtRest, IsWorld, TakesOneSpare, stage_of}
 use Rattle.uv_world.specs.Stages.{stage_then}
-use Rattle.uv_world.specs.Tearing.{object_doomed}
+use Rattle.uv_world.specs.Tearing.{object_doomed, pull_of}
 use Rattle.uv_run.specs.declared.flight.Killed.{Killed}
 use Rattle.uv_run.specs.declared.flight.Teardown.{Teardown}
 use Rattle.uv_run.specs.declared.flight.Teardown.TheVariants.{Closing, Unplugging}
 use Rattle.uv_run.specs.declared.flights.Flights.{Flights}
-use Rattle.uv_run.specs.Site.{is_busy, killed_of, teardown_of, torn_by}
+use Rattle.uv_run.specs.declared.heard.Event.TheVariants as event
+use Rattle.uv_run.specs.declared.heard.Heard.{Heard}
+use Rattle.uv_run.specs.Site.{Turned, ends_with, goes_on, is_busy, killed_of, teardown_of, torn_by, unplugs, with_entry, with_teardown}
 use Rattle.uv_run.specs.Sound.{Began, HasSpares, IsSound, Moved, TeardownFits, TearsOnly, site_of}
 use Rattle.uv_run.proofs.CallSounds.{kept_same, state_more, torn_kept}
 use Rattle.uv_run.proofs.Ending.{ends_entry, moved_none}
 use Rattle.uv_run.proofs.MachineLaws.{files_stand_apart}
 use Rattle.uv_run.proofs.Once.{idle_parts}
+use Rattle.uv_run.proofs.Sites.{site_same, turned_same}
 use Rattle.uv_run.proofs.Sounds.{doomed_idle, doomed_is, kept_by, more_of, moved_after, object_kept, put_there, slot_other, sound_after, stay_same}
 use Rattle.uv_run.proofs.Tears.{torn_stays}
 
@@ -141,6 +144,32 @@ unplug_moved a d old now teardowns sound driver low plugged world stage spares k
           (ap (λ (v : List (Option Doomed)). object_doomed (value_of_slot v a)) doomed ∙ doomed_is old a sound);
       suits = subst S (sym there) (driver, low, pulls);
     }
+
+pub pull_first : (v : Bool) (u : Unit {0}) → pull_of v ≡ Ok u → v ≡ false
+pull_first true u e = absurd (cc)
+pull_first false u e = refl
+
+pub pull_again : (v : Bool) (x : Errno) → pull_of v ≡ Err x → (v ≡ true) × (x ≡ Io)
+pull_again true x e = (refl, (let k : Err Io ≡ pull_of true = refl in cc))
+pull_again false x e = absurd (cc)
+
+pub unplug_first :
+    (a d : ℕ) (old : Flights) (now : World) (teardowns : List (Option Teardown)) (heard : Heard) → is_unplugged (state_of old.world.core.history) d ≡ false → stage_of now ≡ stage_then (stage_of old.world) (Unplug d)
+    → teardowns ≡ at_place old.teardowns a (put_slot (Some (Unplugging d))) → heard ≡ goes_on event.Began → (let t : Turned = record { site = site_of (record old { world = now; teardowns = teardowns }); heard = heard } in t) ≡ unplugs (site_of old) a d
+unplug_first a d old now teardowns heard plugged stage put is =
+    let s = site_of old in
+    turned_same (site_of (record old { world = now; teardowns = teardowns })) (with_teardown (with_entry s (Unplug d)) a (Some (Unplugging d))) heard (goes_on event.Began)
+    (site_same (stage_of now) (stage_then (stage_of old.world) (Unplug d)) teardowns (at_place old.teardowns a (put_slot (Some (Unplugging d)))) old.killed old.killed stage put refl) is
+    ∙ sym (ap (λ (v : Bool). if v then record { site = s; heard = ends_with event.Silent (answer.Refused Io) } else record { site = with_teardown (with_entry s (Unplug d)) a (Some (Unplugging d)); heard = goes_on event.Began }) plugged)
+
+pub unplug_again :
+    (a d : ℕ) (x : Errno) (old : Flights) (now : World) (heard : Heard) → is_unplugged (state_of old.world.core.history) d ≡ true → x ≡ Io → stage_of now ≡ stage_of old.world → heard ≡ ends_with event.Silent (answer.Refused x)
+    → (let t : Turned = record { site = site_of (record old { world = now }); heard = heard } in t) ≡ unplugs (site_of old) a d
+unplug_again a d x old now heard unplugged io stage is =
+    let s = site_of old in
+    turned_same (site_of (record old { world = now })) s heard (ends_with event.Silent (answer.Refused Io)) (site_same (stage_of now) (stage_of old.world) old.teardowns old.teardowns old.killed old.killed stage refl refl)
+    (is ∙ ap (λ (v : Errno). ends_with event.Silent (answer.Refused v)) io)
+    ∙ sym (ap (λ (v : Bool). if v then record { site = s; heard = ends_with event.Silent (answer.Refused Io) } else record { site = with_teardown (with_entry s (Unplug d)) a (Some (Unplugging d)); heard = goes_on event.Began }) unplugged)
 
 -- Opens and calls that enter.
 

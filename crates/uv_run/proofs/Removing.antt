@@ -53,6 +53,18 @@ torn_in true file.Dissociated n e = absurd (cc)
 torn_in true file.Closed n e = absurd (cc)
 torn_in false p n e = absurd (cc)
 
+open_in : (v : Bool) (p : FilePhase) → (if v then tear_in p else torn.Refused BadF) ≡ torn.Began → p ≡ file.Open
+open_in true file.Fresh e = absurd (cc)
+open_in true file.Open e = refl
+open_in true (file.Tearing by) e = absurd (cc)
+open_in true file.Dissociated e = absurd (cc)
+open_in true file.Closed e = absurd (cc)
+open_in false p e = absurd (cc)
+
+-- what is torn was open
+pub torn_open : (m : State) (d f : ℕ) → tear_of m d f ≡ torn.Began → phase_of m f ≡ file.Open
+torn_open m d f e = open_in (device_of m f == d) (phase_of m f) e
+
 -- who is waited for tears the file
 pub waited_tears : (m : State) (d f n : ℕ) → tear_of m d f ≡ torn.NotYet n → phase_of m f ≡ file.Tearing n
 waited_tears m d f n e = torn_in (device_of m f == d) (phase_of m f) n e

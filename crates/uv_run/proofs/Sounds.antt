@@ -1,6 +1,6 @@
 -- Sites stay sound.
 use Rattle.std.proofs.Common.{◌≡◌, ℕ, List, [], ◌∷◌, ◌++◌, Option, Some, None, get_or, length, slice_get, refl, ap, sym, ◌∙◌, subst, ⊎_elim, ◌<◌}
-use Rattle.std.specs.Prelude.{◌≢◌, ◌==◌, option_map}
+use Rattle.std.specs.Prelude.{◌≢◌, ◌==◌, is_some, option_map, true}
 use Rattle.std.proofs.lemmas.Bool.Decides.{eqb_tells}
 use Rattle.std.proofs.lemmas.Option.{slice_get-get_or}
 use Rattle.uv_num.specs.Place.{at_place}
@@ -108,6 +108,14 @@ nothing_doomed (Some d) e = absurd (cc)
 -- nothing lies with an actor of whose teardown nothing is kept
 pub doomed_none : (w : Flights) (a : ℕ) → IsSound w → killed_of (site_of w) a ≡ None → value_of_slot w.world.doomed a ≡ None
 doomed_none w a sound none = nothing_doomed (value_of_slot w.world.doomed a) (doomed_is w a sound ∙ ap object_kept none)
+
+-- an object that lies with an actor
+pub some_doomed : (d : Option Doomed) (o : ℕ) → object_doomed d ≡ Some o → is_some d ≡ true
+some_doomed None o e = absurd (cc)
+some_doomed (Some d) o e = refl
+
+pub same_object : (d : Option Doomed) (o p : ℕ) → object_doomed d ≡ Some o → object_doomed d ≡ Some p → o ≡ p
+same_object d o p eo ep = let k : Some o ≡ Some p = sym eo ∙ ep in cc
 
 doomed_tears : (o : Own) (d : Option Doomed) → HoldsDoomed o d → o.tear ≡ None → d ≡ None
 doomed_tears o None holds none = refl

@@ -55,6 +55,10 @@ still_moved a old now sound world stage spares keep doomed =
     (kept_same old new a sound world doomed refl refl
     (suits_stay (own_of old.world.core a) (own_of now.core a) (teardown_of (site_of old) a) refl (ap (λ (h : List Entry). torn_by (state_of h) a) same) (ap (λ (h : List Entry). pulled_by (state_of h) a) same) (sound.fits a).suits))
 
+-- and who tore nothing tears nothing
+pub tears_none : (a : ℕ) (old now : World) → stage_of now ≡ stage_of old → TearsNone (own_of old.core a) → TearsNone (own_of now.core a)
+tears_none a old now stage none = ap (λ (h : List Entry). torn_by (state_of h) a) (history_same old now stage) ∙ none
+
 -- The end of a teardown without an entry.
 
 -- an actor's teardown has ended, and the world is as it was
@@ -273,13 +277,13 @@ actor_low a w t sound is = actor_in a (own_of w.world.core a) t refl (suits_some
 -- What a kill leaves.
 
 pub kill_moved :
-    (a o : ℕ) (old : Flights) (now : World) (killed : List (Option Killed)) (t : Teardown) (x : Killed) → IsSound old → teardown_of (site_of old) a ≡ Some t → IsWorld now → stage_of now ≡ stage_then (stage_of old.world) (Kill o)
-    → now.core.spares ≡ old.world.core.spares → OthersKeep a old.world.core now.core → object_doomed (value_of_slot now.doomed a) ≡ Some x.object → killed ≡ at_place old.killed a (put_slot (Some x)) → Moved a old (record old { world = now; killed = killed })
-kill_moved a o old now killed t x sound is world stage spares keep doomed put =
-    let there : slot_of (slice_get killed a) ≡ Some x =
-    ap (λ (v : List (Option Killed)). slot_of (slice_get v a)) put ∙ put_there old.killed a (Some x) (subst (λ (n : ℕ). a < n) (sym sound.killed) (actor_low a old t sound is))
-    in
-    goes_on_moved a old (record old { world = now; killed = killed }) t (Kill o) sound
+    (a o : ℕ) (old : Flights) (now : World) (new : Flights) (t : Teardown) (x : Killed) → IsSound old → teardown_of (site_of old) a ≡ Some t → IsWorld now → stage_of now ≡ stage_then (stage_of old.world) (Kill o)
+    → now.core.spares ≡ old.world.core.spares → OthersKeep a old.world.core now.core → object_doomed (value_of_slot now.doomed a) ≡ Some x.object → new ≡ record old { world = now; killed = at_place old.killed a (put_slot (Some x)) } → Moved a old new
+kill_moved a o old now new t x sound is world stage spares keep doomed put =
+    let killed = at_place old.killed a (put_slot (Some x)) in
+    let there : slot_of (slice_get killed a) ≡ Some x = put_there old.killed a (Some x) (subst (λ (n : ℕ). a < n) (sym sound.killed) (actor_low a old t sound is)) in
+    subst (Moved a old) (sym put)
+    (goes_on_moved a old (record old { world = now; killed = killed }) t (Kill o) sound
     record {
       is = is;
       world = world;
@@ -287,12 +291,12 @@ kill_moved a o old now killed t x sound is world stage spares keep doomed put =
       spares = spares;
       keep = keep;
       teardowns = refl;
-      size = ap length put ∙ length-at_place old.killed a (put_slot (Some x));
-      killed = λ b ne. ap (λ (v : List (Option Killed)). slot_of (slice_get v b)) put ∙ slot_other old.killed a b (Some x) ne;
+      size = length-at_place old.killed a (put_slot (Some x));
+      killed = λ b ne. slot_other old.killed a b (Some x) ne;
       doomed = doomed ∙ sym (ap object_kept there);
       ends = λ f. moved_none (state_of old.world.core.history) (Kill o) f refl;
     }
-    refl (tears_same old a t (Kill o) sound is refl)
+    refl (tears_same old a t (Kill o) sound is refl))
 
 -- What a release leaves.
 

@@ -1,5 +1,5 @@
 -- What devices that are pulled and teardowns of files make of a stage.
-use Rattle.std.specs.Prelude.{ℕ, Bool, true, false, ◌==◌, Option, None, Some, Result, Ok, Err, if◌then◌else◌}
+use Rattle.std.specs.Prelude.{ℕ, Bool, true, false, ◌≡◌, ◌==◌, Option, None, Some, Result, Ok, Err, if◌then◌else◌}
 use Rattle.uv_num.specs.declared.errno.Errno.{Errno}
 use Rattle.uv_num.specs.declared.errno.Errno.TheVariants.{Io}
 use Rattle.uv_machine.specs.declared.entry.Entry.TheVariants as entry
@@ -14,7 +14,9 @@ use Rattle.uv_pool.specs.declared.plain.PlainDeed.{PlainDeed}
 use Rattle.uv_machine.specs.States.{newest_free}
 use Rattle.uv_graph.specs.declared.told.Torn.{Torn}
 use Rattle.uv_graph.specs.declared.told.Torn.TheVariants as torn
+use Rattle.uv_graph.specs.declared.out.Own.{Own}
 use Rattle.uv_graph.specs.Calls.{calls_on}
+use Rattle.uv_graph.specs.Owns.{TearsNone}
 use Rattle.uv_graph.specs.Turns.{last_entry}
 use Rattle.uv_world.specs.declared.tearing.Turn.{Turn}
 use Rattle.uv_world.specs.declared.tearing.Turn.TheVariants as turn
@@ -54,6 +56,12 @@ abbrev pub object_killed : Turn → Option ℕ
 object_killed (turn.Killed object kind handle) = Some object
 object_killed turn.Done = None
 object_killed (turn.NotYet calls) = None
+
+-- who has swept a file to its end tears nothing, else the teardown goes on
+abbrev pub TurnLeads : Own → ℕ → Turn → Type 0
+TurnLeads o f (turn.Killed object kind handle) = o.tear ≡ Some f
+TurnLeads o f turn.Done = TearsNone o
+TurnLeads o f (turn.NotYet calls) = o.tear ≡ Some f
 
 -- a file is swept once no call on it is in flight
 abbrev pub stage_swept : Stage → ℕ → ℕ → StageTurn

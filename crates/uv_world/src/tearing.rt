@@ -14,7 +14,7 @@ ghost use Rattle.uv_world.specs.Holdings.{held_of};
 ghost use Rattle.uv_world.specs.Moving.{held_moved};
 ghost use Rattle.uv_world.specs.Owing.{IsHoused, MoveFits};
 ghost use Rattle.uv_world.specs.Seating.{IsAtRest, IsWorld, stage_of};
-ghost use Rattle.uv_world.specs.Tearing.{LaysDoomed, kill_ahead, object_doomed, object_killed, pull_of, stage_gone, stage_swept, stage_torn, stage_unplugged};
+ghost use Rattle.uv_world.specs.Tearing.{LaysDoomed, TurnLeads, kill_ahead, object_doomed, object_killed, pull_of, stage_gone, stage_swept, stage_torn, stage_unplugged};
 
 use crate::deeds::{bury_deed, lay, pick};
 use crate::laws::fitting_goes_on;
@@ -121,6 +121,7 @@ impl World {
         ensures stage { record { stage = stage_of self.new; turn = result } ≡ stage_swept (stage_of self.old) tearer file }
         ensures spares { self.new.core.spares ≡ self.old.core.spares }
         ensures others { OthersKeep tearer self.old.core self.new.core }
+        ensures leads { TurnLeads (own_of self.new.core tearer) file result }
         ensures doomed { object_doomed (value_of_slot self.new.doomed tearer) ≡ object_killed result }
         ensures world { IsWorld self.new }
     {

@@ -1,62 +1,116 @@
-use Rattle.std.proofs.Common.{ℕ, ◌<◌, List, [], ◌∷◌, ◌++◌, Some, None, ◌==◌, Bool, arith, ap, inl, refl, subst, sym, ◌∙◌, ◌≡◌}
-use Rattle.std.specs.Prelude.{if◌then◌else◌}
+use Rattle.std.proofs.Common.{◌≡◌, ◌∙◌, ℕ, List, Some, None, ap, arith, inl, inr, refl, subst, sym}
+use Rattle.std.specs.Prelude.{◌≤◌, ◌==◌, sum_by}
+use Rattle.uv_num.specs.Place.{at_place}
 use Rattle.uv_machine.specs.declared.entry.Entry.{Entry}
 use Rattle.uv_machine.specs.declared.entry.Entry.TheVariants.{Kill}
-use Rattle.uv_machine.specs.declared.object.Object.{Object}
-use Rattle.uv_machine.specs.Histories.{IsLegal, state_of}
-use Rattle.uv_machine.specs.States.{newest_free}
+use Rattle.uv_machine.specs.Histories.{state_of}
 use Rattle.uv_graph.specs.Calls.{calls_on}
-use Rattle.uv_graph.specs.Kept.{Kept}
+use Rattle.uv_graph.specs.Slots.{put_slot}
 use Rattle.uv_graph.specs.Turns.{last_entry}
+use Rattle.uv_world.specs.declared.world.World.{World}
+use Rattle.uv_world.specs.declared.tearing.Turn.{Turn}
+use Rattle.uv_world.specs.Celled.{value_of_slot}
+use Rattle.uv_world.specs.Seating.{IsWorld, stage_of}
+use Rattle.uv_world.specs.Stages.{Stage, stage_then}
+use Rattle.uv_world.specs.Tearing.{object_doomed, object_killed, stage_swept}
 use Rattle.uv_run.specs.declared.flights.Flights.{Flights}
-use Rattle.uv_run.specs.Site.{kill_turn}
+use Rattle.uv_run.specs.declared.heard.Heard.{Heard}
+use Rattle.uv_run.specs.Progress.{IsStuck}
+use Rattle.uv_run.specs.Site.{swept_turn}
 use Rattle.uv_run.specs.Sound.{site_of}
-use Rattle.uv_run.proofs.Beginnings.{moved_then}
 use Rattle.uv_run.proofs.Lowering.{entry_lowers}
-use Rattle.uv_run.proofs.Sweeps.{kept_fewer, kill_turned, killed_object}
-use Rattle.uv_run.proofs.TearSounds.{actor_low, done_moved, kill_moved, last_free}
+use Rattle.uv_run.proofs.Sites.{still_site, still_turned}
+use Rattle.uv_run.proofs.Sounds.{doomed_is, doomed_none, more_of, moved_then, object_kept}
+use Rattle.uv_run.proofs.Sweeps.{done_turned, kept_fewer, kill_of, kill_turned, not_turned, swept_at, swept_out}
+use Rattle.uv_run.proofs.TearSounds.{actor_is, done_moved, kill_moved, last_free, still_moved}
+use Rattle.uv_run.proofs.TearTurns.{swept_done, swept_kill, swept_not}
 use Rattle.uv_run.proofs.flights.Flights.sweep_on.Goals as goal
+
+pub sweep-requires-clause-actor : goal.sweep-requires-clause-actor
+sweep-requires-clause-actor c = actor_is c.args.actor c.args.self.now c.args.teardown c.requires.sound c.requires.teardown
+
+pub sweep-requires-clause-rest : goal.sweep-requires-clause-rest
+sweep-requires-clause-rest c = record { call = c.requires.call; doomed_none = doomed_none c.args.self.now c.args.actor c.requires.sound c.requires.none }
+
+pub end-requires-clause-none : goal.end-requires-clause-none
+end-requires-clause-none c = swept_out c.args.actor c.args.file _ c.sweep.result c.sweep.ensures.leads c.in-Done.is
 
 pub end-requires-clause-sound : goal.end-requires-clause-sound
 end-requires-clause-sound c =
-    let d = c.in-Done.ensures.gives in
     let old = c.args.self.now in
-    let new = record c.args.self.now { core = c.sweep.new.self } in
-    (done_moved c.args.actor c.args.file old new c.args.teardown c.requires.sound c.requires.teardown c.sweep.ensures.legal d.notes d.torn c.sweep.ensures.others refl refl refl refl).sound
+    let d = swept_done (stage_of old.world) (stage_of c.sweep.new.self) c.args.actor c.args.file (swept_at (stage_of old.world) (stage_of c.sweep.new.self) c.args.actor c.args.file c.sweep.result _ c.sweep.ensures.stage c.in-Done.is) in
+    (done_moved c.args.actor c.args.file old c.sweep.new.self c.args.teardown c.requires.sound c.requires.teardown c.sweep.ensures.world d.stage c.sweep.ensures.spares c.sweep.ensures.others
+    (c.sweep.ensures.doomed ∙ (ap object_killed c.in-Done.is ∙ sym (ap object_kept c.requires.none)))
+    (swept_out c.args.actor c.args.file _ c.sweep.result c.sweep.ensures.leads c.in-Done.is)).sound
+
+pub returns-in-Done-clause-turned : goal.returns-in-Done-clause-turned
+returns-in-Done-clause-turned c =
+    let old = c.args.self.now in
+    let d = swept_done (stage_of old.world) (stage_of c.sweep.new.self) c.args.actor c.args.file (swept_at (stage_of old.world) (stage_of c.sweep.new.self) c.args.actor c.args.file c.sweep.result _ c.sweep.ensures.stage c.in-Done.is) in
+    c.end.ensures.turned ∙ done_turned old c.sweep.new.self c.args.actor c.args.file c.args.teardown c.requires.sound c.requires.teardown d
 
 pub returns-in-Done-clause-moved : goal.returns-in-Done-clause-moved
 returns-in-Done-clause-moved c =
-    let d = c.in-Done.ensures.gives in
     let old = c.args.self.now in
-    let mid = record c.args.self.now { core = c.sweep.new.self } in
-    moved_then c.args.actor old mid c.end.new.self (done_moved c.args.actor c.args.file old mid c.args.teardown c.requires.sound c.requires.teardown c.sweep.ensures.legal d.notes d.torn c.sweep.ensures.others refl refl refl refl) c.end.ensures.moved
+    let d = swept_done (stage_of old.world) (stage_of c.sweep.new.self) c.args.actor c.args.file (swept_at (stage_of old.world) (stage_of c.sweep.new.self) c.args.actor c.args.file c.sweep.result _ c.sweep.ensures.stage c.in-Done.is) in
+    moved_then c.args.actor old (record old { world = c.sweep.new.self }) c.end.new.self
+    (done_moved c.args.actor c.args.file old c.sweep.new.self c.args.teardown c.requires.sound c.requires.teardown c.sweep.ensures.world d.stage c.sweep.ensures.spares c.sweep.ensures.others
+    (c.sweep.ensures.doomed ∙ (ap object_killed c.in-Done.is ∙ sym (ap object_kept c.requires.none)))
+    (swept_out c.args.actor c.args.file _ c.sweep.result c.sweep.ensures.leads c.in-Done.is)) c.end.ensures.moved
 
 pub returns-in-Done-clause-progress : goal.returns-in-Done-clause-progress
 returns-in-Done-clause-progress c =
-    let d = c.in-Done.ensures.gives in
     let old = c.args.self.now in
     let new = c.end.new.self in
-    let P : Kept → Type 0 = λ v. IsLegal v.history in
-    inl (entry_lowers old new (last_entry c.args.actor c.args.file) (subst P (sym c.end.ensures.world.core) c.sweep.ensures.legal) (ap (λ (k : Kept). k.history) c.end.ensures.world.core ∙ d.notes.history) (last_free c.args.actor c.args.file) c.end.ensures.fewer)
+    let d = swept_done (stage_of old.world) (stage_of c.sweep.new.self) c.args.actor c.args.file (swept_at (stage_of old.world) (stage_of c.sweep.new.self) c.args.actor c.args.file c.sweep.result _ c.sweep.ensures.stage c.in-Done.is) in
+    let P : World → Type 0 = λ v. IsWorld v in
+    let world = subst P (sym c.end.ensures.world) c.sweep.ensures.world in
+    inl (entry_lowers old new (last_entry c.args.actor c.args.file) world.seated.legal (more_of old.world new.world (last_entry c.args.actor c.args.file) (ap stage_of c.end.ensures.world ∙ d.stage)) (last_free c.args.actor c.args.file) c.end.ensures.fewer)
 
-pub returns-in-Kill-clause-turned : goal.returns-in-Kill-clause-turned
-returns-in-Kill-clause-turned c =
-    let k = c.in-Kill.ensures.gives in
-    kill_turned c.args.self.now (record c.args.self.now { core = c.sweep.new.self }) c.kill.new.self c.args.actor c.args.file c.args.teardown c.in-Kill.object c.in-Kill.kind c.in-Kill.handle k.hands.item _ c.kill.result
-    k.quiet k.newest (killed_object (state_of c.args.self.now.world.core.history) c.in-Kill.object k.hands.item k.hands.there) k.of_kind k.handle_is k.hands.notes.history refl refl c.kill.ensures.kept c.kill.ensures.heard
-
-pub returns-in-Kill-clause-progress : goal.returns-in-Kill-clause-progress
-returns-in-Kill-clause-progress c =
-    let k = c.in-Kill.ensures.gives in
+pub returns-in-Killed-clause-turned : goal.returns-in-Killed-clause-turned
+returns-in-Killed-clause-turned c =
     let old = c.args.self.now in
+    let k = swept_kill (stage_of old.world) (stage_of c.sweep.new.self) c.args.actor c.args.file c.in-Killed.object c.in-Killed.kind c.in-Killed.handle
+    (swept_at (stage_of old.world) (stage_of c.sweep.new.self) c.args.actor c.args.file c.sweep.result _ c.sweep.ensures.stage c.in-Killed.is)
+    in
+    kill_turned old c.sweep.new.self c.kill.new.self c.args.actor c.args.file c.args.teardown c.in-Killed.object c.in-Killed.kind c.in-Killed.handle _ k c.kill.ensures.kept c.kill.ensures.heard
+
+pub returns-in-Killed-clause-progress : goal.returns-in-Killed-clause-progress
+returns-in-Killed-clause-progress c =
+    let old = c.args.self.now in
+    let k = swept_kill (stage_of old.world) (stage_of c.sweep.new.self) c.args.actor c.args.file c.in-Killed.object c.in-Killed.kind c.in-Killed.handle
+    (swept_at (stage_of old.world) (stage_of c.sweep.new.self) c.args.actor c.args.file c.sweep.result _ c.sweep.ensures.stage c.in-Killed.is)
+    in
     let new = c.kill.new.self in
-    let P : Kept → Type 0 = λ v. IsLegal v.history in
-    inl (entry_lowers old new (Kill c.in-Kill.object) (subst P (sym c.kill.ensures.kept.world.core) c.sweep.ensures.legal) (ap (λ (v : Kept). v.history) c.kill.ensures.kept.world.core ∙ k.hands.notes.history) refl (kept_fewer old new c.kill.ensures.kept.teardowns))
+    let same : new.world ≡ c.sweep.new.self = ap (λ (w : Flights). w.world) c.kill.ensures.kept in
+    let world : IsWorld new.world = subst IsWorld (sym same) c.sweep.ensures.world in
+    inl (entry_lowers old new (Kill k.item.id) world.seated.legal (more_of old.world new.world (Kill k.item.id) (ap stage_of same ∙ k.stage)) refl (kept_fewer old new (ap (λ (w : Flights). w.teardowns) c.kill.ensures.kept)))
 
-pub returns-in-Kill-clause-moved : goal.returns-in-Kill-clause-moved
-returns-in-Kill-clause-moved c =
-    let k = c.in-Kill.ensures.gives in
+pub returns-in-Killed-clause-moved : goal.returns-in-Killed-clause-moved
+returns-in-Killed-clause-moved c =
     let old = c.args.self.now in
-    let mid = record c.args.self.now { core = c.sweep.new.self } in
-    kill_moved c.args.actor c.in-Kill.object old mid c.kill.new.self c.args.teardown _ _ _ _ c.requires.sound c.requires.teardown c.sweep.ensures.legal k.hands.notes c.sweep.ensures.others refl refl refl refl
-    c.kill.ensures.kept (sym (killed_object (state_of c.args.self.now.world.core.history) c.in-Kill.object k.hands.item k.hands.there)) k.hands.deed (subst (λ (n : ℕ). c.args.actor < n) (sym c.has_places.ensures.kills) (actor_low c.args.actor old c.args.teardown c.requires.sound c.requires.teardown))
+    let k = swept_kill (stage_of old.world) (stage_of c.sweep.new.self) c.args.actor c.args.file c.in-Killed.object c.in-Killed.kind c.in-Killed.handle
+    (swept_at (stage_of old.world) (stage_of c.sweep.new.self) c.args.actor c.args.file c.sweep.result _ c.sweep.ensures.stage c.in-Killed.is)
+    in
+    kill_moved c.args.actor k.item.id old c.sweep.new.self c.kill.new.self c.args.teardown (kill_of c.in-Killed.object c.args.file c.in-Killed.kind c.in-Killed.handle) c.requires.sound c.requires.teardown c.sweep.ensures.world k.stage c.sweep.ensures.spares
+    c.sweep.ensures.others (c.sweep.ensures.doomed ∙ ap object_killed c.in-Killed.is) c.kill.ensures.kept
+
+pub returns-in-NotYet-clause-turned : goal.returns-in-NotYet-clause-turned
+returns-in-NotYet-clause-turned c =
+    let old = c.args.self.now in
+    let n = swept_not (stage_of old.world) (stage_of c.sweep.new.self) c.args.actor c.args.file c.in-NotYet.calls (swept_at (stage_of old.world) (stage_of c.sweep.new.self) c.args.actor c.args.file c.sweep.result _ c.sweep.ensures.stage c.in-NotYet.is) in
+    not_turned old c.sweep.new.self c.args.actor c.args.file c.in-NotYet.calls c.args.teardown _ n c.goes_on.ensures
+
+pub returns-in-NotYet-clause-progress : goal.returns-in-NotYet-clause-progress
+returns-in-NotYet-clause-progress c =
+    let old = c.args.self.now in
+    let n = swept_not (stage_of old.world) (stage_of c.sweep.new.self) c.args.actor c.args.file c.in-NotYet.calls (swept_at (stage_of old.world) (stage_of c.sweep.new.self) c.args.actor c.args.file c.sweep.result _ c.sweep.ensures.stage c.in-NotYet.is) in
+    let P : Heard → Type 0 = λ v. IsStuck (site_of old) c.args.actor v.event in
+    inr (still_site old c.sweep.new.self n.stage, subst P (sym c.goes_on.ensures) record { call = c.requires.call; tears = c.requires.tears; calls = n.some })
+
+pub returns-in-NotYet-clause-moved : goal.returns-in-NotYet-clause-moved
+returns-in-NotYet-clause-moved c =
+    let old = c.args.self.now in
+    let n = swept_not (stage_of old.world) (stage_of c.sweep.new.self) c.args.actor c.args.file c.in-NotYet.calls (swept_at (stage_of old.world) (stage_of c.sweep.new.self) c.args.actor c.args.file c.sweep.result _ c.sweep.ensures.stage c.in-NotYet.is) in
+    still_moved c.args.actor old c.sweep.new.self c.requires.sound c.sweep.ensures.world n.stage c.sweep.ensures.spares c.sweep.ensures.others
+    (c.sweep.ensures.doomed ∙ (ap object_killed c.in-NotYet.is ∙ sym (ap object_doomed (doomed_none old c.args.actor c.requires.sound c.requires.none))))

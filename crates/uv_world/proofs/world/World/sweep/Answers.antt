@@ -63,6 +63,15 @@ returns-in-Kill-clause-world c =
           (subst L (sym c.doom.ensures.core) c.sweep.ensures.legal) c.requires.world.fits;
     }
 
+pub returns-in-Kill-clause-leads : goal.returns-in-Kill-clause-leads
+returns-in-Kill-clause-leads c = ap (λ (k : Kept). (own_of k c.args.tearer).tear) c.doom.ensures.core ∙ c.in-Kill.ensures.leads.tearing
+
+pub returns-in-Done-clause-leads : goal.returns-in-Done-clause-leads
+returns-in-Done-clause-leads c = c.in-Done.ensures.leads
+
+pub returns-in-NotYet-clause-leads : goal.returns-in-NotYet-clause-leads
+returns-in-NotYet-clause-leads c = c.in-NotYet.ensures.leads.tearing
+
 pub returns-in-Kill-clause-doomed : goal.returns-in-Kill-clause-doomed
 returns-in-Kill-clause-doomed c =
     let old = c.args.self.now in
