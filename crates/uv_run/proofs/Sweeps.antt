@@ -20,7 +20,7 @@ use Rattle.uv_world.specs.Seating.{stage_of}
 use Rattle.uv_world.specs.Stages.{Stage, stage_then}
 use Rattle.uv_world.specs.declared.tearing.Turn.{Turn}
 use Rattle.uv_world.specs.declared.tearing.Turn.TheVariants as turn
-use Rattle.uv_world.specs.Tearing.{TurnLeads, stage_swept}
+use Rattle.uv_world.specs.Tearing.{StageTurn, TurnLeads, stage_swept}
 use Rattle.uv_run.specs.declared.flight.Killed.{Killed}
 use Rattle.uv_run.specs.declared.flight.Teardown.{Teardown}
 use Rattle.uv_run.specs.declared.heard.Event.TheVariants as event
@@ -85,9 +85,9 @@ not_turned old now a f n t heard swept is =
     ∙ swept_waits (site_of old) a f t swept.some
 
 -- a turn by its name
-pub swept_at : (s u : Stage) (a f : ℕ) (x y : Turn) → record { stage = u; turn = x } ≡ stage_swept s a f → x ≡ y → record { stage = u; turn = y } ≡ stage_swept s a f
+pub swept_at : (s u : Stage) (a f : ℕ) (x y : Turn) → (let t : StageTurn = record { stage = u; turn = x } in t) ≡ stage_swept s a f → x ≡ y → (let t : StageTurn = record { stage = u; turn = y } in t) ≡ stage_swept s a f
 swept_at s u a f x y e same =
-    let P : Turn → Type 0 = λ v. record { stage = u; turn = v } ≡ stage_swept s a f in
+    let P : Turn → Type 0 = λ v. (let t : StageTurn = record { stage = u; turn = v } in t) ≡ stage_swept s a f in
     subst P same e
 
 -- who has swept a file to its end tears nothing

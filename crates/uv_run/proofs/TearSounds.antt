@@ -40,7 +40,7 @@ use Rattle.uv_run.proofs.Tears.{torn_stays}
 
 -- A call of the world that made no entry.
 
-history_same : (old now : World) → stage_of now ≡ stage_of old → now.core.history ≡ old.core.history
+pub history_same : (old now : World) → stage_of now ≡ stage_of old → now.core.history ≡ old.core.history
 history_same old now stage = ap (λ (s : Stage). s.history) stage
 
 -- nothing has happened
@@ -215,10 +215,6 @@ tear_moved a f by old now t sound is world stage spares keep doomed tears =
 last_plugged : (m : State) (f : ℕ) (t : Teardown) → (after m (last_of f t)).plugged ≡ m.plugged
 last_plugged m f (Closing g) = refl
 last_plugged m f (Unplugging d) = refl
-
-last_nobody : (a f : ℕ) (t : Teardown) → is_of a (last_of f t) ≡ false
-last_nobody a f (Closing g) = refl
-last_nobody a f (Unplugging d) = refl
 
 for_none : (t : Teardown) (torn : Option ℕ) → torn ≡ None → TearsFor t torn
 for_none (Closing f) torn none =

@@ -155,48 +155,48 @@ pub record SweptNot (s u : Stage) (f n : ℕ) : Type 0 where
   pub calls : n ≡ calls_on (state_of s.history) f
   pub stage : u ≡ s
 
-stage_in : (s u : Stage) (x y : Turn) → record { stage = u; turn = x } ≡ record { stage = s; turn = y } → u ≡ s
+stage_in : (s u : Stage) (x y : Turn) → (let t : StageTurn = record { stage = u; turn = x } in t) ≡ record { stage = s; turn = y } → u ≡ s
 stage_in s u x y e = ap (λ (t : StageTurn). t.stage) e
 
-turn_in : (s u : Stage) (x y : Turn) → record { stage = u; turn = x } ≡ record { stage = s; turn = y } → x ≡ y
+turn_in : (s u : Stage) (x y : Turn) → (let t : StageTurn = record { stage = u; turn = x } in t) ≡ record { stage = s; turn = y } → x ≡ y
 turn_in s u x y e = ap (λ (t : StageTurn). t.turn) e
 
-kill_at : (s u : Stage) (a f o : ℕ) (k : Kind) (n : ℕ) (x : Option Object) → (calls_on (state_of s.history) f == 0) ≡ true → newest_free (state_of s.history) f ≡ x → record { stage = u; turn = turn.Killed o k n } ≡ stage_killed s a f x → SweptKill s u f o k n
+kill_at : (s u : Stage) (a f o : ℕ) (k : Kind) (n : ℕ) (x : Option Object) → (calls_on (state_of s.history) f == 0) ≡ true → newest_free (state_of s.history) f ≡ x → (let t : StageTurn = record { stage = u; turn = turn.Killed o k n } in t) ≡ stage_killed s a f x → SweptKill s u f o k n
 kill_at s u a f o k n None quiet free e = let t = turn_in (stage_then s (last_entry a f)) u (turn.Killed o k n) turn.Done e in absurd (cc)
 kill_at s u a f o k n (Some x) quiet free e =
     let t = turn_in (stage_then s (entry.Kill x.id)) u (turn.Killed o k n) (turn.Killed x.id x.kind x.handle) e in
     record { item = x; quiet = quiet; free = free; id = cc; kind = cc; handle = cc; stage = stage_in (stage_then s (entry.Kill x.id)) u (turn.Killed o k n) (turn.Killed x.id x.kind x.handle) e }
 
 kill_if : (s u : Stage) (a f o : ℕ) (k : Kind) (n : ℕ) (v : Bool) → (calls_on (state_of s.history) f == 0) ≡ v
-    → record { stage = u; turn = turn.Killed o k n } ≡ (if v then stage_killed s a f (newest_free (state_of s.history) f) else record { stage = s; turn = turn.NotYet (calls_on (state_of s.history) f) }) → SweptKill s u f o k n
+    → (let t : StageTurn = record { stage = u; turn = turn.Killed o k n } in t) ≡ (if v then stage_killed s a f (newest_free (state_of s.history) f) else record { stage = s; turn = turn.NotYet (calls_on (state_of s.history) f) }) → SweptKill s u f o k n
 kill_if s u a f o k n true is e = kill_at s u a f o k n (newest_free (state_of s.history) f) is refl e
 kill_if s u a f o k n false is e = let t = turn_in s u (turn.Killed o k n) (turn.NotYet (calls_on (state_of s.history) f)) e in absurd (cc)
 
-pub swept_kill : (s u : Stage) (a f o : ℕ) (k : Kind) (n : ℕ) → record { stage = u; turn = turn.Killed o k n } ≡ stage_swept s a f → SweptKill s u f o k n
+pub swept_kill : (s u : Stage) (a f o : ℕ) (k : Kind) (n : ℕ) → (let t : StageTurn = record { stage = u; turn = turn.Killed o k n } in t) ≡ stage_swept s a f → SweptKill s u f o k n
 swept_kill s u a f o k n e = kill_if s u a f o k n (calls_on (state_of s.history) f == 0) refl e
 
-done_at : (s u : Stage) (a f : ℕ) (x : Option Object) → (calls_on (state_of s.history) f == 0) ≡ true → newest_free (state_of s.history) f ≡ x → record { stage = u; turn = turn.Done } ≡ stage_killed s a f x → SweptDone s u a f
+done_at : (s u : Stage) (a f : ℕ) (x : Option Object) → (calls_on (state_of s.history) f == 0) ≡ true → newest_free (state_of s.history) f ≡ x → (let t : StageTurn = record { stage = u; turn = turn.Done } in t) ≡ stage_killed s a f x → SweptDone s u a f
 done_at s u a f None quiet free e = record { quiet = quiet; none = free; stage = stage_in (stage_then s (last_entry a f)) u turn.Done turn.Done e }
 done_at s u a f (Some x) quiet free e = let t = turn_in (stage_then s (entry.Kill x.id)) u turn.Done (turn.Killed x.id x.kind x.handle) e in absurd (cc)
 
 done_if : (s u : Stage) (a f : ℕ) (v : Bool) → (calls_on (state_of s.history) f == 0) ≡ v
-    → record { stage = u; turn = turn.Done } ≡ (if v then stage_killed s a f (newest_free (state_of s.history) f) else record { stage = s; turn = turn.NotYet (calls_on (state_of s.history) f) }) → SweptDone s u a f
+    → (let t : StageTurn = record { stage = u; turn = turn.Done } in t) ≡ (if v then stage_killed s a f (newest_free (state_of s.history) f) else record { stage = s; turn = turn.NotYet (calls_on (state_of s.history) f) }) → SweptDone s u a f
 done_if s u a f true is e = done_at s u a f (newest_free (state_of s.history) f) is refl e
 done_if s u a f false is e = let t = turn_in s u turn.Done (turn.NotYet (calls_on (state_of s.history) f)) e in absurd (cc)
 
-pub swept_done : (s u : Stage) (a f : ℕ) → record { stage = u; turn = turn.Done } ≡ stage_swept s a f → SweptDone s u a f
+pub swept_done : (s u : Stage) (a f : ℕ) → (let t : StageTurn = record { stage = u; turn = turn.Done } in t) ≡ stage_swept s a f → SweptDone s u a f
 swept_done s u a f e = done_if s u a f (calls_on (state_of s.history) f == 0) refl e
 
-not_at : (s u : Stage) (a f n : ℕ) (x : Option Object) → record { stage = u; turn = turn.NotYet n } ≡ stage_killed s a f x → ⊥
+not_at : (s u : Stage) (a f n : ℕ) (x : Option Object) → (let t : StageTurn = record { stage = u; turn = turn.NotYet n } in t) ≡ stage_killed s a f x → ⊥
 not_at s u a f n None e = let t = turn_in (stage_then s (last_entry a f)) u (turn.NotYet n) turn.Done e in cc
 not_at s u a f n (Some x) e = let t = turn_in (stage_then s (entry.Kill x.id)) u (turn.NotYet n) (turn.Killed x.id x.kind x.handle) e in cc
 
 not_if : (s u : Stage) (a f n : ℕ) (v : Bool) → (calls_on (state_of s.history) f == 0) ≡ v
-    → record { stage = u; turn = turn.NotYet n } ≡ (if v then stage_killed s a f (newest_free (state_of s.history) f) else record { stage = s; turn = turn.NotYet (calls_on (state_of s.history) f) }) → SweptNot s u f n
+    → (let t : StageTurn = record { stage = u; turn = turn.NotYet n } in t) ≡ (if v then stage_killed s a f (newest_free (state_of s.history) f) else record { stage = s; turn = turn.NotYet (calls_on (state_of s.history) f) }) → SweptNot s u f n
 not_if s u a f n true is e = absurd (not_at s u a f n (newest_free (state_of s.history) f) e)
 not_if s u a f n false is e =
     let t = turn_in s u (turn.NotYet n) (turn.NotYet (calls_on (state_of s.history) f)) e in
     record { some = is; calls = cc; stage = stage_in s u (turn.NotYet n) (turn.NotYet (calls_on (state_of s.history) f)) e }
 
-pub swept_not : (s u : Stage) (a f n : ℕ) → record { stage = u; turn = turn.NotYet n } ≡ stage_swept s a f → SweptNot s u f n
+pub swept_not : (s u : Stage) (a f n : ℕ) → (let t : StageTurn = record { stage = u; turn = turn.NotYet n } in t) ≡ stage_swept s a f → SweptNot s u f n
 swept_not s u a f n e = not_if s u a f n (calls_on (state_of s.history) f == 0) refl e

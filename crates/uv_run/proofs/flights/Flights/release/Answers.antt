@@ -14,31 +14,31 @@ use Rattle.uv_run.proofs.Sounds.{doomed_is, more_of, object_kept, some_doomed, s
 use Rattle.uv_run.proofs.TearSounds.{actor_is, release_moved}
 use Rattle.uv_run.proofs.flights.Flights.release.Goals as goal
 
-pub gone-_object-requires-clause-actor : goal.gone-_object-requires-clause-actor
-gone-_object-requires-clause-actor c = actor_is c.args.actor c.args.self.now c.args._teardown c.requires.sound c.requires.teardown
+pub gone-object-requires-clause-actor : goal.gone-object-requires-clause-actor
+gone-object-requires-clause-actor c = actor_is c.args.actor c.args.self.now c.args._teardown c.requires.sound c.requires.teardown
 
-pub gone-_object-requires-clause-doomed : goal.gone-_object-requires-clause-doomed
-gone-_object-requires-clause-doomed c = some_doomed (value_of_slot c.args.self.now.world.doomed c.args.actor) c.args.x.object (doomed_is c.args.self.now c.args.actor c.requires.sound ∙ ap object_kept c.requires.killed)
+pub gone-object-requires-clause-doomed : goal.gone-object-requires-clause-doomed
+gone-object-requires-clause-doomed c = some_doomed (value_of_slot c.args.self.now.world.doomed c.args.actor) c.args.x.object (doomed_is c.args.self.now c.args.actor c.requires.sound ∙ ap object_kept c.requires.killed)
 
 pub returns-clause-turned : goal.returns-clause-turned
 returns-clause-turned c =
     let old = c.args.self.now in
     let x = c.args.x in
     let kept = kept_in (site_of old) c.args.file in
-    let same = same_object (value_of_slot old.world.doomed c.args.actor) c.gone-_object.result x.object c.gone-_object.ensures.object (doomed_is old c.args.actor c.requires.sound ∙ ap object_kept c.requires.killed) in
-    turned_same (site_of (record old { world = c.gone-_object.new.self; killed = c.change_at.new.items })) (with_killed (with_entry (site_of old) (Gone x.object kept)) c.args.actor _) _ _
-    (site_same (stage_of c.gone-_object.new.self) (stage_then (stage_of old.world) (Gone x.object kept)) old.teardowns old.teardowns c.change_at.new.items (at_place old.killed c.args.actor (put_slot _))
-    (c.gone-_object.ensures.stage ∙ ap (λ (v : ℕ). stage_then (stage_of old.world) (Gone v kept)) same) refl c.change_at.ensures)
+    let same = same_object (value_of_slot old.world.doomed c.args.actor) c.gone-object.result x.object c.gone-object.ensures.object (doomed_is old c.args.actor c.requires.sound ∙ ap object_kept c.requires.killed) in
+    turned_same (site_of (record old { world = c.gone-object.new.self; killed = c.change_at.new.items })) (with_killed (with_entry (site_of old) (Gone x.object kept)) c.args.actor _) _ _
+    (site_same (stage_of c.gone-object.new.self) (stage_then (stage_of old.world) (Gone x.object kept)) old.teardowns old.teardowns c.change_at.new.items (at_place old.killed c.args.actor (put_slot _))
+    (c.gone-object.ensures.stage ∙ ap (λ (v : ℕ). stage_then (stage_of old.world) (Gone v kept)) same) refl c.change_at.ensures)
     c.goes_on.ensures
 
 pub returns-clause-progress : goal.returns-clause-progress
 returns-clause-progress c =
     let old = c.args.self.now in
-    let e = Gone c.gone-_object.result (kept_in (site_of old) c.args.file) in
-    inl (entry_lowers old (record old { world = c.gone-_object.new.self; killed = c.change_at.new.items }) e c.gone-_object.ensures.world.seated.legal (more_of old.world c.gone-_object.new.self e c.gone-_object.ensures.stage) refl (omega arith))
+    let e = Gone c.gone-object.result (kept_in (site_of old) c.args.file) in
+    inl (entry_lowers old (record old { world = c.gone-object.new.self; killed = c.change_at.new.items }) e c.gone-object.ensures.world.seated.legal (more_of old.world c.gone-object.new.self e c.gone-object.ensures.stage) refl (omega arith))
 
 pub returns-clause-moved : goal.returns-clause-moved
 returns-clause-moved c =
     let old = c.args.self.now in
-    let g = c.gone-_object.ensures in
-    release_moved c.args.actor c.gone-_object.result (kept_in (site_of old) c.args.file) old c.gone-_object.new.self c.change_at.new.items c.args._teardown c.requires.sound c.requires.teardown g.world g.stage g.spares g.others g.none c.change_at.ensures
+    let g = c.gone-object.ensures in
+    release_moved c.args.actor c.gone-object.result (kept_in (site_of old) c.args.file) old c.gone-object.new.self c.change_at.new.items c.args._teardown c.requires.sound c.requires.teardown g.world g.stage g.spares g.others g.none c.change_at.ensures

@@ -5,6 +5,7 @@ use Rattle.uv_machine.specs.declared.entry.Entry.{Entry}
 use Rattle.uv_machine.specs.declared.entry.Entry.TheVariants.{Kill}
 use Rattle.uv_machine.specs.Histories.{state_of}
 use Rattle.uv_graph.specs.Calls.{calls_on}
+use Rattle.uv_graph.specs.Owns.{own_of}
 use Rattle.uv_graph.specs.Slots.{put_slot}
 use Rattle.uv_graph.specs.Turns.{last_entry}
 use Rattle.uv_world.specs.declared.world.World.{World}
@@ -33,7 +34,7 @@ pub sweep-requires-clause-rest : goal.sweep-requires-clause-rest
 sweep-requires-clause-rest c = record { call = c.requires.call; doomed_none = doomed_none c.args.self.now c.args.actor c.requires.sound c.requires.none }
 
 pub end-requires-clause-none : goal.end-requires-clause-none
-end-requires-clause-none c = swept_out c.args.actor c.args.file _ c.sweep.result c.sweep.ensures.leads c.in-Done.is
+end-requires-clause-none c = swept_out c.args.actor c.args.file (own_of c.sweep.new.self.core c.args.actor) c.sweep.result c.sweep.ensures.leads c.in-Done.is
 
 pub end-requires-clause-sound : goal.end-requires-clause-sound
 end-requires-clause-sound c =
@@ -41,7 +42,7 @@ end-requires-clause-sound c =
     let d = swept_done (stage_of old.world) (stage_of c.sweep.new.self) c.args.actor c.args.file (swept_at (stage_of old.world) (stage_of c.sweep.new.self) c.args.actor c.args.file c.sweep.result _ c.sweep.ensures.stage c.in-Done.is) in
     (done_moved c.args.actor c.args.file old c.sweep.new.self c.args.teardown c.requires.sound c.requires.teardown c.sweep.ensures.world d.stage c.sweep.ensures.spares c.sweep.ensures.others
     (c.sweep.ensures.doomed ∙ (ap object_killed c.in-Done.is ∙ sym (ap object_kept c.requires.none)))
-    (swept_out c.args.actor c.args.file _ c.sweep.result c.sweep.ensures.leads c.in-Done.is)).sound
+    (swept_out c.args.actor c.args.file (own_of c.sweep.new.self.core c.args.actor) c.sweep.result c.sweep.ensures.leads c.in-Done.is)).sound
 
 pub returns-in-Done-clause-turned : goal.returns-in-Done-clause-turned
 returns-in-Done-clause-turned c =
@@ -56,7 +57,7 @@ returns-in-Done-clause-moved c =
     moved_then c.args.actor old (record old { world = c.sweep.new.self }) c.end.new.self
     (done_moved c.args.actor c.args.file old c.sweep.new.self c.args.teardown c.requires.sound c.requires.teardown c.sweep.ensures.world d.stage c.sweep.ensures.spares c.sweep.ensures.others
     (c.sweep.ensures.doomed ∙ (ap object_killed c.in-Done.is ∙ sym (ap object_kept c.requires.none)))
-    (swept_out c.args.actor c.args.file _ c.sweep.result c.sweep.ensures.leads c.in-Done.is)) c.end.ensures.moved
+    (swept_out c.args.actor c.args.file (own_of c.sweep.new.self.core c.args.actor) c.sweep.result c.sweep.ensures.leads c.in-Done.is)) c.end.ensures.moved
 
 pub returns-in-Done-clause-progress : goal.returns-in-Done-clause-progress
 returns-in-Done-clause-progress c =
