@@ -1,13 +1,10 @@
 -- Each actor's calls are those of its lines, with the answers of the replies.
-use Rattle.std.proofs.Common.{◌≡◌, ℕ, zero, suc, ◌+◌, ◌<◌, ◌≤◌, Bool, true, false, List, [], ◌∷◌, ◌++◌, Option, Some, None, Ok, Err, length, refl, ap, sym, ◌∙◌, subst, arith, inl, inr, filter, append-nil, ⊎_elim}
-use Rattle.std.specs.Prelude.{All, ◌≢◌, ◌⊎◌, ◌==◌, Result, not, replicate, slice_get}
+use Rattle.std.proofs.Common.{◌≡◌, ℕ, zero, suc, ◌<◌, ◌≤◌, Bool, true, false, List, [], ◌∷◌, ◌++◌, Option, None, Ok, Err, refl, ap, sym, ◌∙◌, subst, arith, filter, append-nil, ⊎_elim}
+use Rattle.std.specs.Prelude.{All, ◌≢◌, ◌==◌, Result, not, replicate, slice_get}
 use Rattle.std.proofs.lemmas.Bool.{cases_lt, eq-eqb, ne_eqb}
-use Rattle.std.proofs.lemmas.Bool.Decides.{eqb_tells}
 use Rattle.std.proofs.lemmas.List.Elements.{All-head, All-tail}
 use Rattle.uv_num.specs.declared.errno.Errno.{Errno}
 use Rattle.uv_num.specs.declared.limits.TheConstants.{ACTOR_PLACES, CLIENTS, DRIVER, ENDER}
-use Rattle.uv_machine.specs.declared.entry.Entry.{Entry}
-use Rattle.uv_machine.specs.Calls.{Item, calls_of}
 use Rattle.uv_machine.specs.Histories.{IsLegal}
 use Rattle.uv_graph.specs.Seats.{slot_of}
 use Rattle.uv_report.specs.declared.saying.Saying.{Saying}
@@ -18,20 +15,18 @@ use Rattle.uv_script.specs.declared.form.Form.TheVariants as form
 use Rattle.uv_script.specs.declared.form.Line.{Line}
 use Rattle.uv_script.specs.Ranges.{HasRanges, IsInRange, MayDo}
 use Rattle.uv_run.specs.declared.flight.Task.{Task}
-use Rattle.uv_run.specs.declared.flight.Teardown.{Teardown}
-use Rattle.uv_run.specs.declared.reply.Reply.{Reply}
 use Rattle.uv_run.specs.declared.reply.Telling.TheVariants as telling
 use Rattle.uv_run.specs.Asking.{Asking, asking_of, task_of}
 use Rattle.uv_run.specs.Chains.{Chain}
-use Rattle.uv_run.specs.Follows.{AnswersAll, AreAnswered, ClosesEnd, EndsAll, EndsFile, RunsOutAll, all_actors, is_asked_by, start_stand}
+use Rattle.uv_run.specs.Follows.{AnswersAll, ClosesEnd, EndsAll, RunsOutAll, all_actors, is_asked_by, start_stand}
 use Rattle.uv_run.specs.Follows.AreAnswered.{Nothing}
 use Rattle.uv_run.specs.Lines.{BeginsTask, ClosesIf, ClosesOwn, PlaysAll, PlaysForm, PlaysNext, RunsTask, Told, all_files, plus_line}
-use Rattle.uv_run.specs.Site.{Site, closes, is_busy, teardown_of, start_site}
+use Rattle.uv_run.specs.Site.{closes, is_busy, start_site}
 use Rattle.uv_run.specs.Stand.{Stand, after_turned, with_begun, with_said}
-use Rattle.uv_run.specs.Turns.{RunsOut, after_event, after_waiting, awaited, others_if}
+use Rattle.uv_run.specs.Turns.{RunsOut, after_waiting, awaited}
 use Rattle.uv_run.proofs.BeginSeats.{all_but, all_told, begins_seated, close_quiet, seat_rests, seated_begun, seated_loud, seated_quiet}
-use Rattle.uv_run.proofs.Seated.{SeatOf, Seated, SeatedAt, event_seated, out_seated, waiting_seated}
-use Rattle.uv_run.proofs.Sitting.{Sits, asked_other}
+use Rattle.uv_run.proofs.Seated.{SeatOf, SeatedAt, event_seated, out_seated, waiting_seated}
+use Rattle.uv_run.proofs.Sitting.{asked_other}
 use Rattle.uv_run.proofs.Sitting.Sits.{Rests, InCall, InTear}
 
 -- Lines.

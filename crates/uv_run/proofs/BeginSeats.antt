@@ -1,10 +1,9 @@
 -- The seats of actors as something begins: what is asked for, and what is so as an actor has nothing in flight.
-use Rattle.std.proofs.Common.{◌≡◌, ℕ, ◌<◌, Bool, true, false, List, [], ◌∷◌, ◌++◌, Option, Some, None, length, slice_get, refl, ap, sym, ◌∙◌, subst, inl, inr, filter, append-nil, ⊎_elim}
-use Rattle.std.specs.Prelude.{◌≢◌, ◌==◌, get_or, is_none, not, option_map, option_to_list, unwrap_or, if◌then◌else◌}
+use Rattle.std.proofs.Common.{◌≡◌, ℕ, ◌<◌, Bool, true, false, List, [], ◌∷◌, ◌++◌, Option, Some, None, length, slice_get, refl, ap, sym, ◌∙◌, subst, filter, append-nil, ⊎_elim}
+use Rattle.std.specs.Prelude.{◌≢◌, ◌==◌, get_or, not, option_map, option_to_list, unwrap_or, if◌then◌else◌}
 use Rattle.std.proofs.lemmas.Bool.{eq-eqb, ne_eqb}
 use Rattle.std.proofs.lemmas.Option.{slice_get-get_or}
 use Rattle.std.proofs.lemmas.Bool.Decides.{eqb_tells}
-use Rattle.uv_num.specs.Place.{at_place}
 use Rattle.uv_num.specs.declared.errno.Errno.{Errno}
 use Rattle.uv_num.specs.declared.errno.Errno.TheVariants.{Io}
 use Rattle.uv_num.specs.declared.limits.TheConstants.{ACTOR_PLACES}
@@ -17,7 +16,7 @@ use Rattle.uv_machine.specs.declared.entry.Entry.TheVariants as entry
 use Rattle.uv_machine.specs.Calls.{Item, calls_of, calls_with, early_answer}
 use Rattle.uv_machine.specs.Calls.Item.{Opening, Calling}
 use Rattle.uv_machine.specs.Effects.{refusal_in}
-use Rattle.uv_machine.specs.Histories.{IsLegal, state_of}
+use Rattle.uv_machine.specs.Histories.{IsLegal}
 use Rattle.uv_machine.specs.States.{call_of, is_unplugged, phase_of}
 use Rattle.uv_machine.proofs.Clients.{calls_go_on}
 use Rattle.uv_graph.specs.Slots.{put_slot}
@@ -25,20 +24,19 @@ use Rattle.uv_run.specs.declared.flight.Task.{Task}
 use Rattle.uv_run.specs.declared.flight.Task.TheVariants as task
 use Rattle.uv_run.specs.declared.flight.Teardown.{Teardown}
 use Rattle.uv_run.specs.declared.flight.Teardown.TheVariants.{Closing, Unplugging}
-use Rattle.uv_run.specs.declared.heard.Ended.{Ended}
 use Rattle.uv_run.specs.declared.heard.Event.TheVariants as event
 use Rattle.uv_run.specs.declared.reply.Reply.{Reply}
 use Rattle.uv_run.specs.declared.reply.Telling.{Telling}
 use Rattle.uv_run.specs.Asking.{Asking}
-use Rattle.uv_run.specs.Follows.{AreAnswered, IsAnswered, is_asked_by, is_call, replied_to}
+use Rattle.uv_run.specs.Follows.{IsAnswered, is_asked_by, is_call, replied_to}
 use Rattle.uv_run.specs.Follows.AreAnswered.{Call, Teardown as Torn}
 use Rattle.uv_run.specs.Site.{Begins, Site, Turned, begun, close_turn, closes, ends_with, entered, goes_on, is_busy, state_at, teardown_of, unplugs, with_entry, with_teardown}
 use Rattle.uv_run.specs.Stand.{Stand, after_turned, begun_by, put_line, reply_by, with_begun}
 use Rattle.uv_run.proofs.Determined.{is_told}
 use Rattle.uv_run.proofs.Once.{idle_parts}
-use Rattle.uv_run.proofs.Seated.{Apart, SeatOf, Seated, SeatedAt, legal_front, no_reply, other_reply, seated_after, told_reply, torn_untold}
+use Rattle.uv_run.proofs.Seated.{Apart, SeatOf, SeatedAt, legal_front, no_reply, other_reply, seated_after, told_reply, torn_untold}
 use Rattle.uv_run.proofs.Shapes.{Over, Tearing, close_shape}
-use Rattle.uv_run.proofs.Sitting.{Sits, SitsBy, asked_other, asked_own, rests, sits_moved}
+use Rattle.uv_run.proofs.Sitting.{Sits, asked_other, asked_own, rests, sits_moved}
 use Rattle.uv_run.proofs.Sitting.Sits.{Rests, InCall, InTear}
 use Rattle.uv_run.proofs.Sounds.{put_there, slot_other}
 

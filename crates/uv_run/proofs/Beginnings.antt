@@ -1,17 +1,16 @@
 -- Sites stay sound where something begins.
-use Rattle.std.proofs.Common.{◌≡◌, ℕ, zero, suc, ◌<◌, ◌≤◌, ◌+◌, Bool, true, false, List, [], ◌∷◌, ◌++◌, Option, Some, None, Ok, Err, length, slice_get, unwrap_or, refl, ap, sym, ◌∙◌, subst, arith, inl, inr, ⊎_elim}
-use Rattle.std.specs.Prelude.{◌≢◌, ◌==◌, map, not, option_map, if◌then◌else◌}
+use Rattle.std.proofs.Common.{◌≡◌, ℕ, zero, suc, ◌<◌, Bool, true, false, List, [], ◌∷◌, Option, Some, None, Ok, Err, length, slice_get, unwrap_or, refl, ap, sym, ◌∙◌, subst, arith, inl, inr, ⊎_elim}
+use Rattle.std.specs.Prelude.{◌≢◌, map, not, option_map, if◌then◌else◌}
 use Rattle.std.proofs.lemmas.Bool.{eq-eqb}
 use Rattle.std.proofs.lemmas.Bool.Decides.{eqb_tells}
 use Rattle.uv_num.specs.Place.{at_place}
 use Rattle.uv_num.proofs.PlaceLaws.{length-at_place, slice_get-at_place_same}
 use Rattle.uv_num.specs.declared.errno.Errno.{Errno}
-use Rattle.uv_num.specs.declared.errno.Errno.TheVariants.{Inval, Io, NoMem}
+use Rattle.uv_num.specs.declared.errno.Errno.TheVariants.{Inval, Io}
 use Rattle.uv_num.specs.declared.limits.TheConstants.{DEVICES, DRIVER, FILES}
 use Rattle.uv_num.specs.declared.request.Request.{Request}
 use Rattle.uv_machine.specs.declared.entry.Answer.{Answer}
 use Rattle.uv_machine.specs.declared.entry.Answer.TheVariants as answer
-use Rattle.uv_machine.specs.declared.entry.Entry.{Entry}
 use Rattle.uv_machine.specs.declared.entry.Entry.TheVariants.{Open, Enter, Unplug}
 use Rattle.uv_machine.specs.declared.file.File.{File}
 use Rattle.uv_machine.specs.declared.file.FilePhase.{FilePhase}
@@ -21,7 +20,6 @@ use Rattle.uv_machine.specs.Effects.{opened, without_plug}
 use Rattle.uv_machine.specs.Histories.{IsActor, after, state_of}
 use Rattle.uv_machine.specs.Outside.{MayAnswer, open_refusal}
 use Rattle.uv_machine.specs.States.{call_of, is_fresh, is_unplugged, phase_in, phase_of}
-use Rattle.uv_graph.specs.declared.out.Own.{Own}
 use Rattle.uv_graph.specs.Conditions.{HasSpare, IsClient}
 use Rattle.uv_graph.specs.Kept.{spare_of}
 use Rattle.uv_graph.specs.Owns.{TearsNone, is_torn_by, none_pulled, own_of, pulled_by}
@@ -34,7 +32,6 @@ use Rattle.uv_world.specs.Celled.{value_of_slot}
 use Rattle.uv_world.specs.Seating.{IsAtRest, IsWorld, TakesOneSpare, stage_of}
 use Rattle.uv_world.specs.Stages.{stage_then}
 use Rattle.uv_world.specs.Tearing.{object_doomed, pull_of}
-use Rattle.uv_run.specs.declared.flight.Killed.{Killed}
 use Rattle.uv_run.specs.declared.flight.Teardown.{Teardown}
 use Rattle.uv_run.specs.declared.flight.Teardown.TheVariants.{Closing, Unplugging}
 use Rattle.uv_run.specs.declared.flights.Flights.{Flights}
@@ -47,7 +44,7 @@ use Rattle.uv_run.proofs.Ending.{ends_entry, moved_none}
 use Rattle.uv_run.proofs.MachineLaws.{files_stand_apart}
 use Rattle.uv_run.proofs.Once.{idle_parts}
 use Rattle.uv_run.proofs.Sites.{site_same, turned_same}
-use Rattle.uv_run.proofs.Sounds.{doomed_idle, doomed_is, kept_by, more_of, moved_after, object_kept, put_there, slot_other, sound_after, stay_same}
+use Rattle.uv_run.proofs.Sounds.{doomed_idle, doomed_is, kept_by, more_of, moved_after, put_there, slot_other, sound_after, stay_same}
 use Rattle.uv_run.proofs.Tears.{torn_stays}
 
 -- Who has nothing in flight.

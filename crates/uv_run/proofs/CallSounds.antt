@@ -1,9 +1,9 @@
 -- Sites stay sound over the steps of calls.
-use Rattle.std.proofs.Common.{◌≡◌, ℕ, ◌≤◌, Bool, true, false, List, [], ◌∷◌, ◌++◌, Option, Some, None, slice_get, refl, ap, sym, ◌∙◌, subst, arith}
+use Rattle.std.proofs.Common.{◌≡◌, ℕ, Bool, true, false, List, [], ◌∷◌, ◌++◌, Option, Some, None, slice_get, refl, ap, sym, ◌∙◌, subst, arith}
 use Rattle.std.specs.Prelude.{◌≢◌, ◌==◌, if◌then◌else◌, map, not}
 use Rattle.std.proofs.lemmas.Bool.{ne_eqb}
 use Rattle.uv_num.specs.Ranges.{is_in_range}
-use Rattle.uv_num.specs.declared.limits.TheConstants.{CLIENTS, DRIVER}
+use Rattle.uv_num.specs.declared.limits.TheConstants.{DRIVER}
 use Rattle.uv_machine.specs.declared.call.InFlight.{InFlight}
 use Rattle.uv_machine.specs.declared.entry.CallStep.{CallStep}
 use Rattle.uv_machine.specs.declared.entry.Entry.{Entry}

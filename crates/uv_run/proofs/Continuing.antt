@@ -2,7 +2,6 @@
 use Rattle.std.proofs.Common.{◌≡◌, ℕ, ◌+◌, ◌≤◌, Bool, true, false, List, [], ◌∷◌, ◌++◌, Option, Some, None, length, refl, ap, sym, ◌∙◌, subst, arith, append-nil, append_assoc, length-append}
 use Rattle.std.specs.Prelude.{◌==◌, if◌then◌else◌}
 use Rattle.uv_num.specs.declared.limits.TheConstants.{DRIVER}
-use Rattle.uv_machine.specs.declared.call.InFlight.{InFlight}
 use Rattle.uv_machine.specs.declared.entry.CallStep.{CallStep}
 use Rattle.uv_machine.specs.declared.entry.Entry.{Entry}
 use Rattle.uv_machine.specs.declared.entry.Entry.TheVariants as entry
@@ -18,7 +17,7 @@ use Rattle.uv_run.specs.declared.flight.Task.TheVariants as task
 use Rattle.uv_run.specs.declared.flight.Teardown.{Teardown}
 use Rattle.uv_run.specs.declared.flight.Teardown.TheVariants.{Closing, Unplugging}
 use Rattle.uv_run.specs.declared.heard.Event.{Event}
-use Rattle.uv_run.specs.Site.{Begins, Site, Turned, begin_turn, close_turn, closes, dissociated_turn, ended_turn, event_of, file_ahead, found_of, kept_at, kept_in, kill_turn, killed_of, last_of, removal_turn, removed, state_at, sweep_turn, swept_turn, teardown_of, teardown_turn, tears_turn, torn_by, torn_down, torn_turn, turn_by, unplug_turn, unplugs, with_entry, with_teardown}
+use Rattle.uv_run.specs.Site.{Begins, Site, Turned, begin_turn, close_turn, closes, ended_turn, event_of, file_ahead, found_of, kept_at, kept_in, kill_turn, killed_of, last_of, removal_turn, removed, state_at, sweep_turn, swept_turn, teardown_of, teardown_turn, tears_turn, torn_by, torn_down, torn_turn, turn_by, unplug_turn, unplugs, with_entry, with_teardown}
 
 pub record Continued (old new : List Entry) : Type 0 where
   pub more : List Entry

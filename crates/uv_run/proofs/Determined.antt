@@ -1,6 +1,6 @@
 -- Where no text is ENOMEM, the lines of a script determine the record of their run.
 use Rattle.std.proofs.Common.{◌≡◌, ℕ, Bool, true, false, List, [], ◌∷◌, ◌++◌, Option, Some, None, Ok, Err, refl, ap, sym, ◌∙◌, subst, inl, inr, append-nil, append_assoc}
-use Rattle.std.specs.Prelude.{◌≢◌, ◌⊎◌, Result, if◌then◌else◌}
+use Rattle.std.specs.Prelude.{◌≢◌, Result}
 use Rattle.uv_num.specs.declared.errno.Errno.{Errno}
 use Rattle.uv_num.specs.declared.errno.Errno.TheVariants.{NoMem}
 use Rattle.uv_num.specs.declared.limits.TheConstants.{ENDER}
@@ -16,7 +16,6 @@ use Rattle.uv_report.specs.declared.record.Record.{Record}
 use Rattle.uv_report.specs.declared.record.Said.{Said}
 use Rattle.uv_report.specs.declared.saying.Saying.{Saying}
 use Rattle.uv_report.specs.declared.saying.Saying.TheVariants as saying
-use Rattle.uv_script.specs.declared.form.Deed.{Deed}
 use Rattle.uv_script.specs.declared.form.Form.{Form}
 use Rattle.uv_script.specs.declared.form.Form.TheVariants as form
 use Rattle.uv_script.specs.declared.form.Line.{Line}
@@ -24,15 +23,14 @@ use Rattle.uv_run.specs.declared.flight.Task.{Task}
 use Rattle.uv_run.specs.declared.flight.Task.TheVariants as task
 use Rattle.uv_num.specs.declared.request.Request.{Request}
 use Rattle.uv_run.specs.declared.heard.Event.TheVariants as event
-use Rattle.uv_run.specs.declared.heard.Heard.{Heard}
 use Rattle.uv_run.specs.declared.reply.Telling.{Telling}
 use Rattle.uv_run.specs.declared.reply.Telling.TheVariants as telling
 use Rattle.uv_run.specs.Asking.{Asking, asking_of, task_of}
 use Rattle.uv_run.specs.Chains.{Chain}
 use Rattle.uv_run.specs.Follows.{ClosesEnd, EndsFile, FollowsScript, all_actors}
 use Rattle.uv_run.specs.Laws.{HadMemory, RecordIsTold}
-use Rattle.uv_run.specs.Lines.{BeginsLine, BeginsOnly, BeginsTask, ClosesIf, ClosesOwn, PlaysForm, PlaysNext, RunsTask, Told, all_files, is_clients, plus_line}
-use Rattle.uv_run.specs.Site.{Begins, EntersCall, OpensFile, Site, Turned, closes, ends_with, entered, is_busy, state_at, unplugs, with_entry}
+use Rattle.uv_run.specs.Lines.{BeginsLine, BeginsTask, ClosesIf, ClosesOwn, PlaysForm, PlaysNext, RunsTask, Told, all_files}
+use Rattle.uv_run.specs.Site.{Begins, EntersCall, OpensFile, Site, Turned, closes, ends_with, entered, state_at, with_entry}
 use Rattle.uv_run.specs.Stand.{Stand, after_turned, event_said, reply_by, reply_text, said_if, saying_for, with_begun, with_said}
 use Rattle.uv_run.specs.Turns.{RunsOut, after_waiting, awaited, others_if}
 use Rattle.uv_run.proofs.ChainLaws.{Chain-once}

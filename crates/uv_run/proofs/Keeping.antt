@@ -1,5 +1,5 @@
 -- What every turn and every text keeps, lines keep. Of a turn it is known that the history grows at its end.
-use Rattle.std.proofs.Common.{◌≡◌, ℕ, zero, suc, ◌+◌, Bool, true, false, List, [], ◌∷◌, Option, Some, None, Ok, Err, sym, subst}
+use Rattle.std.proofs.Common.{ℕ, zero, suc, ◌+◌, Bool, true, false, List, [], ◌∷◌, Option, Some, None, Ok, Err, sym, subst}
 use Rattle.std.specs.Prelude.{◌==◌, ◌||◌, Result, not, if◌then◌else◌}
 use Rattle.uv_num.specs.declared.errno.Errno.{Errno}
 use Rattle.uv_num.specs.declared.limits.TheConstants.{ENDER}
@@ -14,7 +14,7 @@ use Rattle.uv_run.specs.Asking.{Asking, task_of}
 use Rattle.uv_run.specs.Chains.{Chain}
 use Rattle.uv_run.specs.Follows.{ClosesEnd, EndsFile}
 use Rattle.uv_run.specs.Lines.{BeginsTask, ClosesIf, ClosesOwn, PlaysForm, PlaysNext, RunsTask, Told, plus_line}
-use Rattle.uv_run.specs.Site.{Site, Turned, closes, event_of, is_busy}
+use Rattle.uv_run.specs.Site.{Turned, closes, event_of, is_busy}
 use Rattle.uv_run.specs.Stand.{Stand, after_turned, begun_by, with_begun, with_said}
 use Rattle.uv_run.specs.Turns.{RunsOut, after_event, after_waiting, awaited, is_on, one_turn, others_if, others_of, turns_of}
 use Rattle.uv_run.proofs.Continuing.{Continues, begins_continues, closes_continues, event_continues}

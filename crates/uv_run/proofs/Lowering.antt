@@ -1,19 +1,17 @@
 -- What is ahead gets less.
-use Rattle.std.proofs.Common.{◌≡◌, ℕ, ◌+◌, ◌<◌, ◌≤◌, List, [], ◌∷◌, ◌++◌, Option, Some, None, slice_get, refl, ap, sym, ◌∙◌, subst, arith, inl, inr}
+use Rattle.std.proofs.Common.{◌≡◌, ℕ, ◌+◌, ◌<◌, ◌≤◌, List, [], ◌∷◌, ◌++◌, Option, Some, None, slice_get, refl, ap, subst, arith}
 use Rattle.std.specs.Prelude.{sum_by}
 use Rattle.uv_num.specs.Place.{at_place, changed_item}
 use Rattle.uv_num.proofs.PlaceLaws.{sum_by-at_place}
 use Rattle.uv_machine.specs.declared.entry.Entry.{Entry}
-use Rattle.uv_machine.specs.declared.state.State.{State}
 use Rattle.uv_machine.specs.Accounts.{costs, owed}
-use Rattle.uv_machine.specs.Histories.{Allowed, IsLegal, after, state_of}
+use Rattle.uv_machine.specs.Histories.{IsLegal, after, state_of}
 use Rattle.uv_machine.proofs.Owing.{owed_after}
 use Rattle.uv_graph.specs.Seats.{slot_of}
 use Rattle.uv_graph.specs.Slots.{put_slot}
 use Rattle.uv_run.specs.declared.flight.Teardown.{Teardown}
 use Rattle.uv_run.specs.declared.flights.Flights.{Flights}
 use Rattle.uv_run.specs.Progress.{ahead, flying}
-use Rattle.uv_run.specs.Site.{Site, state_at, teardown_of}
 use Rattle.uv_run.specs.Sound.{site_of}
 use Rattle.uv_run.proofs.CallSounds.{last_allowed, state_more}
 

@@ -1,5 +1,5 @@
 -- A run to the end leads to one stand alone.
-use Rattle.std.proofs.Common.{◌≡◌, ℕ, zero, suc, ◌+◌, Bool, true, false, not, ◌||◌, List, [], ◌++◌, Option, None, Some, is_none, refl, sym, ap, subst, ◌∙◌, arith, append-nil}
+use Rattle.std.proofs.Common.{◌≡◌, ℕ, zero, suc, ◌+◌, false, not, ◌||◌, List, [], ◌++◌, Option, None, Some, is_none, refl, sym, ap, subst, ◌∙◌, arith, append-nil}
 use Rattle.uv_machine.specs.declared.call.InFlight.{InFlight}
 use Rattle.uv_machine.specs.States.{call_of}
 use Rattle.uv_machine.specs.Steps.{next_from}

@@ -1,10 +1,10 @@
 -- As a script has ended, no call is in flight and each file is over.
-use Rattle.std.proofs.Common.{◌≡◌, ℕ, ◌+◌, ◌<◌, ◌≤◌, Bool, true, false, List, Option, Some, None, length, slice_get, refl, ap, sym, ◌∙◌, subst, arith, ⊎_elim}
-use Rattle.std.specs.Prelude.{◌≢◌, ◌==◌, ◌||◌, is_none, not, option_map}
+use Rattle.std.proofs.Common.{◌≡◌, ℕ, ◌+◌, ◌<◌, ◌≤◌, true, false, Option, Some, None, slice_get, refl, ap, sym, ◌∙◌, subst, arith, ⊎_elim}
+use Rattle.std.specs.Prelude.{option_map}
 use Rattle.std.proofs.lemmas.Bool.{cases_lt, eq-eqb}
 use Rattle.std.proofs.lemmas.Option.{slice_get_within}
 use Rattle.uv_num.proofs.PlaceLaws.{slice_get-at_place_same}
-use Rattle.uv_num.specs.declared.limits.TheConstants.{ACTORS, CLIENTS, DRIVER, ENDER, FILES}
+use Rattle.uv_num.specs.declared.limits.TheConstants.{ENDER, FILES}
 use Rattle.uv_machine.specs.declared.call.InFlight.{InFlight}
 use Rattle.uv_machine.specs.declared.entry.Entry.TheVariants.{Tear}
 use Rattle.uv_machine.specs.declared.file.File.{File}
@@ -25,7 +25,7 @@ use Rattle.uv_run.specs.declared.flight.Teardown.TheVariants.{Closing, Unpluggin
 use Rattle.uv_run.specs.declared.flights.Flights.{Flights}
 use Rattle.uv_run.specs.Ends.{AreIdle}
 use Rattle.uv_run.specs.Runs.{StaysIdle}
-use Rattle.uv_run.specs.Site.{Site, close_turn, closes, is_busy, state_at, teardown_of, torn_by, with_teardown}
+use Rattle.uv_run.specs.Site.{Site, close_turn, closes, state_at, teardown_of, torn_by, with_teardown}
 use Rattle.uv_run.specs.Sound.{EndsStay, IsSound, TeardownFits, is_ending, site_of}
 use Rattle.uv_run.proofs.Beginnings.{idle_call, idle_teardown}
 use Rattle.uv_run.proofs.CallSounds.{client_of_call}

@@ -1,16 +1,15 @@
 -- What lines ask of the site is in reach.
-use Rattle.std.proofs.Common.{◌≡◌, ℕ, ◌≤◌, ◌<◌, Bool, true, false, List, Ok, Err, refl, arith}
+use Rattle.std.proofs.Common.{◌≡◌, ℕ, Bool, true, false, List, Ok, Err, refl, arith}
 use Rattle.std.specs.Prelude.{if◌then◌else◌}
 use Rattle.uv_num.specs.Ranges.{is_in_range}
 use Rattle.uv_num.specs.declared.errno.Errno.TheVariants.{Inval}
-use Rattle.uv_num.specs.declared.limits.TheConstants.{CLIENTS, DRIVER, FILES}
 use Rattle.uv_num.specs.declared.request.Request.{Request}
 use Rattle.uv_script.specs.Ranges.{IsCaller, MayDo}
 use Rattle.uv_script.specs.declared.form.Deed.{Deed}
 use Rattle.uv_script.specs.declared.form.Deed.TheVariants as deed
 use Rattle.uv_run.specs.declared.reply.Reply.{Reply}
 use Rattle.uv_run.specs.Asking.{call_of_verb, request_by, task_of}
-use Rattle.uv_run.specs.Ranges.{IsFlier, IsInDeed}
+use Rattle.uv_run.specs.Ranges.{IsInDeed}
 
 call_if : (a f : ℕ) (request : Request) (v : Bool) → is_in_range request ≡ v → IsCaller a f → IsInDeed a (call_of_verb f request (if v then Ok tt else Err Inval))
 call_if a f request true is caller = ((caller.client.first, caller.client.last), caller.below, is)

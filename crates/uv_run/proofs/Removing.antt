@@ -1,5 +1,5 @@
 -- The files that the driver has to see to.
-use Rattle.std.proofs.Common.{◌≡◌, ℕ, zero, suc, ◌+◌, ◌<◌, Bool, true, false, Option, Some, None, refl, ap, sym, ◌∙◌, subst, arith}
+use Rattle.std.proofs.Common.{◌≡◌, ℕ, zero, suc, ◌+◌, ◌<◌, Bool, true, false, Option, Some, None, refl, ap, ◌∙◌, subst, arith}
 use Rattle.std.specs.Prelude.{◌≢◌, ◌==◌, ◌&&◌, ◌||◌, if◌then◌else◌}
 use Rattle.std.proofs.lemmas.Bool.{eq-eqb}
 use Rattle.uv_num.specs.declared.errno.Errno.{Errno}
@@ -8,7 +8,6 @@ use Rattle.uv_machine.specs.declared.file.FilePhase.{FilePhase}
 use Rattle.uv_machine.specs.declared.file.FilePhase.TheVariants as file
 use Rattle.uv_machine.specs.declared.state.State.{State}
 use Rattle.uv_machine.specs.States.{device_of, is_open, is_tearing, phase_of}
-use Rattle.uv_graph.specs.declared.told.Torn.{Torn}
 use Rattle.uv_graph.specs.declared.told.Torn.TheVariants as torn
 use Rattle.uv_graph.specs.Owns.{is_torn_by}
 use Rattle.uv_graph.specs.Turns.{tear_in, tear_of}

@@ -1,18 +1,16 @@
 -- Runs stay sound over lines.
-use Rattle.std.proofs.Common.{◌≡◌, ℕ, ◌+◌, ◌≤◌, Bool, true, false, List, [], ◌∷◌, ◌++◌, Option, Some, None, Ok, Err, length, slice_get, take, unwrap_or, refl, ap, sym, ◌∙◌, subst, arith, inl, inr, ⊎_elim}
-use Rattle.std.specs.Prelude.{◌≢◌, ◌<◌, ◌||◌, All, OnOk, Result, is_none, not}
+use Rattle.std.proofs.Common.{◌≡◌, ℕ, ◌+◌, false, List, [], ◌∷◌, ◌++◌, Option, Some, Ok, Err, slice_get, take, unwrap_or, refl, ap, sym, ◌∙◌, subst, arith, ⊎_elim}
+use Rattle.std.specs.Prelude.{◌≢◌, ◌||◌, All, OnOk, Result, is_none, not}
 use Rattle.std.proofs.lemmas.Bool.{cases_lt}
 use Rattle.std.proofs.lemmas.Bool.Decides.{eqb_tells}
 use Rattle.std.proofs.lemmas.List.{take_more}
 use Rattle.std.proofs.lemmas.List.Elements.{All-append, All-cons}
 use Rattle.std.proofs.lemmas.Option.{get_or_from_slice_get, slice_get_within}
-use Rattle.uv_num.specs.declared.limits.TheConstants.{ACTORS, CLIENTS, DRIVER, ENDER}
-use Rattle.uv_num.specs.declared.errno.Errno.{Errno}
+use Rattle.uv_num.specs.declared.limits.TheConstants.{ENDER}
 use Rattle.uv_machine.specs.declared.call.InFlight.{InFlight}
 use Rattle.uv_machine.specs.Histories.{IsActor, state_of}
 use Rattle.uv_machine.specs.States.{call_of}
 use Rattle.uv_graph.specs.declared.out.Own.{Own}
-use Rattle.uv_graph.specs.Conditions.{IsClient}
 use Rattle.uv_graph.specs.Kept.{Kept, spare_of}
 use Rattle.uv_world.specs.Seating.{TakesOneSpare}
 use Rattle.uv_script.specs.declared.form.Deed.{Deed}
@@ -23,17 +21,15 @@ use Rattle.uv_run.specs.declared.flight.Task.{Task}
 use Rattle.uv_run.specs.declared.flight.Task.TheVariants as task
 use Rattle.uv_run.specs.declared.flight.Teardown.{Teardown}
 use Rattle.uv_run.specs.declared.reply.Telling.{Telling}
-use Rattle.uv_run.specs.declared.reply.Telling.TheVariants.{ToEnd}
 use Rattle.uv_run.specs.declared.flights.Flights.{Flights}
-use Rattle.uv_run.specs.Asking.{Asking}
 use Rattle.uv_run.specs.Progress.{HasRoomFor}
-use Rattle.uv_run.specs.Ranges.{IsInDeed, IsInReach}
+use Rattle.uv_run.specs.Ranges.{IsInReach}
 use Rattle.uv_run.specs.Runs.{GoesSound, StaysIdle, StaysSound}
 use Rattle.uv_run.specs.Ends.{AreIdle}
 use Rattle.uv_run.specs.Site.{Site, Turned, is_busy, teardown_of}
-use Rattle.uv_run.specs.Sound.{Began, HasSpares, IsSound, Moved, site_of}
+use Rattle.uv_run.specs.Sound.{Began, IsSound, Moved, site_of}
 use Rattle.uv_run.specs.Stand.{Stand, after_turned, with_begun}
-use Rattle.uv_run.specs.Turns.{RunsOut, after_waiting, awaited, others_if}
+use Rattle.uv_run.specs.Turns.{after_waiting, awaited, others_if}
 
 -- Answers that hold where memory was there.
 

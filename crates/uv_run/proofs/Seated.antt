@@ -1,20 +1,19 @@
 -- What actors asked for, with their replies and calls, through the events of a run.
-use Rattle.std.proofs.Common.{◌≡◌, ℕ, zero, suc, ◌+◌, ◌<◌, ◌≤◌, Bool, true, false, List, [], ◌∷◌, ◌++◌, Option, Some, None, length, refl, ap, sym, ◌∙◌, subst, inl, inr, append-nil, filter, ⊎_elim}
-use Rattle.std.specs.Prelude.{◌≢◌, ◌⊎◌, ◌==◌, ◌||◌, not, is_none, option_to_list, if◌then◌else◌}
+use Rattle.std.proofs.Common.{◌≡◌, ℕ, zero, suc, ◌+◌, Bool, true, false, List, [], ◌∷◌, ◌++◌, Option, Some, None, length, refl, ap, sym, ◌∙◌, subst, inl, inr, append-nil, filter, ⊎_elim}
+use Rattle.std.specs.Prelude.{◌≢◌, ◌⊎◌, ◌==◌, ◌||◌, not, option_to_list, if◌then◌else◌}
 use Rattle.std.proofs.lemmas.Bool.{eq-eqb, ne_eqb}
 use Rattle.std.proofs.lemmas.Bool.Decides.{eqb_tells}
-use Rattle.uv_num.specs.declared.limits.TheConstants.{ACTORS, ACTOR_PLACES, DRIVER}
+use Rattle.uv_num.specs.declared.limits.TheConstants.{ACTORS, ACTOR_PLACES}
 use Rattle.uv_num.specs.declared.qp.QpState.{QpState}
 use Rattle.uv_machine.specs.declared.call.InFlight.{InFlight}
 use Rattle.uv_machine.specs.declared.entry.Answer.{Answer}
 use Rattle.uv_machine.specs.declared.entry.CallStep.{CallStep}
 use Rattle.uv_machine.specs.declared.entry.Entry.{Entry}
-use Rattle.uv_machine.specs.declared.entry.Entry.TheVariants as entry
 use Rattle.uv_machine.specs.declared.entry.Word.{Word}
 use Rattle.uv_machine.specs.declared.entry.Word.TheVariants.{Reserve, Look, Make, Commit, Act, Lock, Check, Finish, Abort, Free, Exit}
 use Rattle.uv_machine.specs.declared.state.State.{State}
-use Rattle.uv_machine.specs.Calls.{Item, answered, at_exit, calls_of, calls_with, unanswered}
-use Rattle.uv_machine.specs.Histories.{IsLegal, IsLegalFrom, after, state_of}
+use Rattle.uv_machine.specs.Calls.{Item, answered, at_exit, calls_of, unanswered}
+use Rattle.uv_machine.specs.Histories.{IsLegal, IsLegalFrom, after}
 use Rattle.uv_machine.specs.States.{call_of, start}
 use Rattle.uv_machine.specs.Steps.{next_from, next_of}
 use Rattle.uv_machine.proofs.Clients.{calls_go_on}
@@ -26,12 +25,12 @@ use Rattle.uv_run.specs.declared.reply.Reply.{Reply}
 use Rattle.uv_run.specs.declared.reply.Telling.{Telling}
 use Rattle.uv_run.specs.declared.reply.Telling.TheVariants as telling
 use Rattle.uv_run.specs.Asking.{Asking}
-use Rattle.uv_run.specs.Follows.{AreAnswered, is_asked_by, replied_to}
+use Rattle.uv_run.specs.Follows.{is_asked_by, replied_to}
 use Rattle.uv_run.specs.Site.{Site, Turned, call_turn, event_of, found_of, kept_at, kind_in_call, state_at, step_heard, teardown_of, teardown_turn, turn_by}
 use Rattle.uv_run.specs.Stand.{Stand, after_turned, begun_by, ended_reply, reply_by}
-use Rattle.uv_run.specs.Turns.{RunsOut, after_event, after_waiting, awaited, is_on, one_turn, others_if, others_of, turns_of}
+use Rattle.uv_run.specs.Turns.{RunsOut, after_event, awaited, is_on, one_turn, others_if, others_of, turns_of}
 use Rattle.uv_run.proofs.Determined.{is_told}
-use Rattle.uv_run.proofs.Shapes.{Over, Tearing, silent_shape, teardown_shape}
+use Rattle.uv_run.proofs.Shapes.{Over, Tearing, teardown_shape}
 use Rattle.uv_run.proofs.Sitting.{Sits, SitsBy, answered_closed, idle_items, replied_other, replied_own, sits_exit, sits_moved, sits_over}
 
 -- Legal histories.

@@ -1,7 +1,6 @@
 -- What an event of a teardown leaves of the calls, and of the teardowns in flight.
-use Rattle.std.proofs.Common.{◌≡◌, ℕ, Bool, true, false, List, [], ◌∷◌, ◌++◌, Option, Some, None, length, refl, ap, sym, ◌∙◌, subst, inl, inr, append_assoc, append-nil}
+use Rattle.std.proofs.Common.{◌≡◌, ℕ, Bool, true, false, List, [], ◌∷◌, ◌++◌, Option, Some, None, length, refl, ap, sym, ◌∙◌, inl, inr, append-nil}
 use Rattle.std.specs.Prelude.{◌≢◌, ◌⊎◌, ◌==◌, if◌then◌else◌}
-use Rattle.uv_num.specs.Place.{at_place}
 use Rattle.uv_num.specs.declared.limits.TheConstants.{DRIVER}
 use Rattle.uv_num.proofs.PlaceLaws.{length-at_place}
 use Rattle.uv_machine.specs.declared.entry.Answer.{Answer}
@@ -18,10 +17,8 @@ use Rattle.uv_graph.specs.Slots.{put_slot}
 use Rattle.uv_run.specs.declared.flight.Killed.{Killed}
 use Rattle.uv_run.specs.declared.flight.Teardown.{Teardown}
 use Rattle.uv_run.specs.declared.flight.Teardown.TheVariants.{Closing, Unplugging}
-use Rattle.uv_run.specs.declared.heard.Ended.{Ended}
 use Rattle.uv_run.specs.declared.heard.Event.{Event}
-use Rattle.uv_run.specs.declared.heard.Event.TheVariants as event
-use Rattle.uv_run.specs.Site.{Site, Turned, begin_turn, close_turn, dissociated_turn, ended_turn, ends_with, file_ahead, goes_on, kept_in, kill_turn, killed_of, last_of, no_close, removal_turn, removed, state_at, sweep_turn, swept_turn, tear_turn, teardown_of, teardown_turn, tears_turn, torn_by, torn_turn, unplug_turn, with_entry, with_teardown}
+use Rattle.uv_run.specs.Site.{Site, Turned, begin_turn, close_turn, ended_turn, ends_with, file_ahead, goes_on, kept_in, kill_turn, killed_of, last_of, no_close, removal_turn, removed, state_at, sweep_turn, swept_turn, tear_turn, teardown_of, teardown_turn, tears_turn, torn_by, unplug_turn, with_entry, with_teardown}
 use Rattle.uv_run.proofs.Sounds.{slot_none, slot_other}
 
 -- the history has gone on without a call's beginning or end

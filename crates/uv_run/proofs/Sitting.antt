@@ -1,9 +1,8 @@
 -- What an actor asked for, with its replies and its calls, as it stands between two events.
 use Rattle.std.proofs.Common.{◌≡◌, ℕ, Bool, true, false, List, [], ◌∷◌, ◌++◌, Option, Some, None, refl, ap, sym, ◌∙◌, subst, append-nil, filter}
-use Rattle.std.specs.Prelude.{◌≢◌, ◌==◌, cond, is_none, option_to_list}
+use Rattle.std.specs.Prelude.{◌≢◌, cond, is_none}
 use Rattle.std.proofs.lemmas.Bool.{eq-eqb, ne_eqb}
 use Rattle.std.proofs.lemmas.List.Elements.{filter-append}
-use Rattle.uv_num.specs.declared.errno.Errno.{Errno}
 use Rattle.uv_num.specs.declared.kind.Kind.{Kind}
 use Rattle.uv_num.specs.declared.request.Request.{Request}
 use Rattle.uv_machine.specs.declared.call.InFlight.{InFlight}
@@ -19,7 +18,7 @@ use Rattle.uv_run.specs.declared.flight.Task.TheVariants as task
 use Rattle.uv_run.specs.declared.flight.Teardown.{Teardown}
 use Rattle.uv_run.specs.declared.reply.Reply.{Reply}
 use Rattle.uv_run.specs.Asking.{Asking}
-use Rattle.uv_run.specs.Follows.{AreAnswered, IsAnswered, IsReplyTo, is_asked_by, is_call, replied_to}
+use Rattle.uv_run.specs.Follows.{AreAnswered, IsAnswered, is_asked_by, is_call, replied_to}
 use Rattle.uv_run.specs.Follows.AreAnswered.{Nothing, Call, Teardown as Torn}
 
 -- Calls that have their answers.

@@ -1,6 +1,6 @@
 -- Sites stay sound.
 use Rattle.std.proofs.Common.{◌≡◌, ℕ, List, [], ◌∷◌, ◌++◌, Option, Some, None, get_or, length, slice_get, refl, ap, sym, ◌∙◌, subst, ⊎_elim, ◌<◌}
-use Rattle.std.specs.Prelude.{◌≢◌, ◌==◌, is_some, option_map, true}
+use Rattle.std.specs.Prelude.{◌≢◌, is_some, option_map, true}
 use Rattle.std.proofs.lemmas.Bool.Decides.{eqb_tells}
 use Rattle.std.proofs.lemmas.Option.{slice_get-get_or}
 use Rattle.uv_num.specs.Place.{at_place}
@@ -9,7 +9,6 @@ use Rattle.uv_machine.specs.declared.entry.Entry.{Entry}
 use Rattle.uv_machine.specs.Histories.{state_of}
 use Rattle.uv_graph.specs.declared.out.Out.{Out}
 use Rattle.uv_graph.specs.declared.out.Own.{Own}
-use Rattle.uv_graph.specs.Kept.{kill_of}
 use Rattle.uv_graph.specs.Owns.{own_of}
 use Rattle.uv_graph.specs.Seats.{slot_of}
 use Rattle.uv_graph.specs.Slots.{put_slot}

@@ -1,5 +1,5 @@
 -- The world in which nothing has happened.
-use Rattle.std.proofs.Common.{◌≡◌, false, ℕ, zero, suc, List, [], Option, Some, None, length, slice_get, refl, ap, sym, ◌∙◌, subst}
+use Rattle.std.proofs.Common.{◌≡◌, false, ℕ, zero, suc, List, Option, Some, None, length, slice_get, refl, ap, sym, ◌∙◌, subst}
 use Rattle.std.specs.Prelude.{◌||◌, is_none, not, replicate}
 use Rattle.uv_num.specs.declared.limits.TheConstants.{ACTOR_PLACES}
 use Rattle.uv_machine.specs.declared.call.InFlight.{InFlight}

@@ -1,14 +1,14 @@
 -- Sites stay sound over the events of teardowns.
-use Rattle.std.proofs.Common.{◌≡◌, ℕ, ◌<◌, ◌≤◌, ◌+◌, Bool, true, false, List, [], ◌∷◌, ◌++◌, Option, Some, None, length, slice_get, refl, ap, sym, ◌∙◌, subst, arith}
+use Rattle.std.proofs.Common.{◌≡◌, ℕ, ◌<◌, ◌≤◌, Bool, true, false, List, Option, Some, None, length, slice_get, refl, ap, sym, ◌∙◌, subst, arith}
 use Rattle.std.specs.Prelude.{◌≢◌, ◌==◌, sum_by, map, not, if◌then◌else◌}
 use Rattle.uv_num.specs.Place.{at_place}
 use Rattle.uv_num.proofs.PlaceLaws.{length-at_place}
-use Rattle.uv_num.specs.declared.limits.TheConstants.{ACTOR_PLACES, ACTORS, DRIVER}
+use Rattle.uv_num.specs.declared.limits.TheConstants.{ACTOR_PLACES, DRIVER}
 use Rattle.uv_machine.specs.declared.entry.Entry.{Entry}
 use Rattle.uv_machine.specs.declared.entry.Entry.TheVariants.{Tear, Kill, Gone, Dissociated, Closed}
 use Rattle.uv_machine.specs.declared.state.State.{State}
 use Rattle.uv_machine.specs.Accounts.{costs, owed}
-use Rattle.uv_machine.specs.Histories.{IsActor, IsLegal, after, state_of}
+use Rattle.uv_machine.specs.Histories.{IsActor, after, state_of}
 use Rattle.uv_machine.specs.Laws.{moves_file}
 use Rattle.uv_machine.specs.States.{object_with, phase_of}
 use Rattle.uv_graph.specs.declared.out.Own.{Own}
@@ -29,7 +29,7 @@ use Rattle.uv_run.specs.declared.flight.Teardown.TheVariants.{Closing, Unpluggin
 use Rattle.uv_run.specs.declared.flights.Flights.{Flights}
 use Rattle.uv_run.specs.Progress.{ahead, flying}
 use Rattle.uv_run.specs.Site.{killed_of, last_of, teardown_of, torn_by}
-use Rattle.uv_run.specs.Sound.{EndsStay, FitsIn, IsSound, Moved, TeardownFits, TearsOnly, is_ending, site_of}
+use Rattle.uv_run.specs.Sound.{EndsStay, IsSound, Moved, TeardownFits, TearsOnly, is_ending, site_of}
 use Rattle.uv_run.proofs.CallSounds.{kept_same, last_allowed, state_more, suits_stay}
 use Rattle.uv_run.proofs.Ending.{ends_entry, ends_last, ends_tear, moved_none}
 use Rattle.uv_run.proofs.Lowering.{end_lowers, fewer_none}

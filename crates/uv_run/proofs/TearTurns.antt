@@ -1,6 +1,6 @@
 -- What the events of a teardown are heard as, and what they leave of the actor's part.
-use Rattle.std.proofs.Common.{◌≡◌, ℕ, Bool, true, false, List, [], ◌∷◌, ◌++◌, Option, Some, None, refl, ap, sym, ◌∙◌, subst, arith, inl, inr, ⊎_elim}
-use Rattle.std.specs.Prelude.{◌≢◌, ◌==◌, ◌&&◌, if◌then◌else◌, reverse}
+use Rattle.std.proofs.Common.{◌≡◌, ℕ, Bool, true, false, Option, Some, None, refl, ap, sym, ◌∙◌, ⊎_elim}
+use Rattle.std.specs.Prelude.{◌==◌, ◌&&◌, if◌then◌else◌, reverse}
 use Rattle.std.proofs.lemmas.Bool.{eqb-true, eq-eqb, ne_eqb}
 use Rattle.std.proofs.lemmas.Bool.Decides.{eqb_tells}
 use Rattle.uv_num.specs.declared.errno.Errno.{Errno}
@@ -19,7 +19,6 @@ use Rattle.uv_machine.specs.Objects.{in_file}
 use Rattle.uv_machine.specs.States.{phase_of, newest_free, can_go}
 use Rattle.uv_machine.proofs.Members.{Passes-find}
 use Rattle.uv_graph.specs.declared.out.Own.{Own}
-use Rattle.uv_graph.specs.declared.told.Torn.{Torn}
 use Rattle.uv_graph.specs.declared.told.Torn.TheVariants as torn
 use Rattle.uv_graph.specs.Calls.{calls_on}
 use Rattle.uv_graph.specs.Owns.{is_torn_by}

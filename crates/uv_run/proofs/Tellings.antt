@@ -1,25 +1,18 @@
 -- What is told has the texts of all replies, in their order.
-use Rattle.std.proofs.Common.{◌≡◌, ℕ, zero, suc, ◌+◌, Bool, true, false, List, [], ◌∷◌, ◌++◌, Option, Some, None, Ok, Err, map, refl, ap, sym, ◌∙◌, subst, inl, inr, append-nil, append_assoc}
-use Rattle.std.specs.Prelude.{◌⊎◌, ◌==◌, ◌||◌, Result, not, option_to_list, if◌then◌else◌}
-use Rattle.uv_num.specs.declared.errno.Errno.{Errno}
+use Rattle.std.proofs.Common.{◌≡◌, ℕ, List, [], ◌∷◌, ◌++◌, Option, Some, None, map, refl, ap, sym, subst, inl, inr, append-nil}
+use Rattle.std.specs.Prelude.{option_to_list}
 use Rattle.uv_report.specs.declared.record.Said.{Said}
 use Rattle.uv_report.specs.declared.saying.Saying.{Saying}
-use Rattle.uv_script.specs.declared.form.Form.{Form}
-use Rattle.uv_script.specs.declared.form.Form.TheVariants as form
 use Rattle.uv_script.specs.declared.form.Line.{Line}
-use Rattle.uv_run.specs.declared.flight.Task.{Task}
 use Rattle.uv_run.specs.declared.heard.Ended.{Ended}
-use Rattle.uv_run.specs.declared.heard.Event.{Event}
 use Rattle.uv_run.specs.declared.reply.Reply.{Reply}
 use Rattle.uv_run.specs.declared.reply.Telling.{Telling}
 use Rattle.uv_run.specs.declared.reply.Telling.TheVariants as telling
-use Rattle.uv_run.specs.Asking.{Asking, task_of}
-use Rattle.uv_run.specs.Chains.{Chain}
-use Rattle.uv_run.specs.Follows.{AreAmong, ClosesEnd, EndsAll, EndsFile, RunsOutAll, all_actors, said_of, start_stand}
-use Rattle.uv_run.specs.Lines.{BeginsTask, ClosesIf, ClosesOwn, PlaysAll, PlaysForm, PlaysNext, all_files, RunsTask, Told, plus_line}
-use Rattle.uv_num.specs.declared.limits.TheConstants.{ENDER}
-use Rattle.uv_run.specs.Site.{Site, Turned, closes, event_of, is_busy, state_at}
-use Rattle.uv_run.specs.Stand.{Stand, after_turned, begun_by, ended_reply, event_said, reply_by, reply_text, said_if, with_begun, with_said}
+use Rattle.uv_run.specs.Asking.{Asking}
+use Rattle.uv_run.specs.Follows.{AreAmong, EndsAll, RunsOutAll, all_actors, said_of, start_stand}
+use Rattle.uv_run.specs.Lines.{PlaysAll, all_files}
+use Rattle.uv_run.specs.Site.{Turned}
+use Rattle.uv_run.specs.Stand.{Stand, after_turned, ended_reply, event_said, reply_by, reply_text, said_if, with_said}
 use Rattle.uv_run.proofs.Continuing.{Continues}
 use Rattle.uv_run.proofs.Keeping.{kept_ends, kept_finish, kept_lines}
 

@@ -1,12 +1,11 @@
 -- A turn leaves less ahead.
 use Rattle.std.proofs.Common.{◌≡◌, ℕ, ◌+◌, ◌<◌, ◌≤◌, Bool, true, false, Option, Some, None, refl, ap, sym, ◌∙◌, subst, arith, inl, inr, ⊎_elim}
-use Rattle.std.specs.Prelude.{◌≢◌, ◌⊎◌, ◌==◌, ◌||◌, not, is_none}
+use Rattle.std.specs.Prelude.{◌≢◌, ◌==◌, ◌||◌, not, is_none}
 use Rattle.std.proofs.lemmas.Bool.{cases_lt, ne_eqb}
 use Rattle.std.proofs.lemmas.Bool.Decides.{eqb_tells}
 use Rattle.uv_num.specs.declared.limits.TheConstants.{ACTORS}
 use Rattle.uv_machine.specs.Histories.{state_of}
 use Rattle.uv_machine.specs.States.{call_of}
-use Rattle.uv_graph.specs.Owns.{own_of}
 use Rattle.uv_graph.specs.declared.out.Own.{Own}
 use Rattle.uv_graph.specs.Seats.{TearsOnce}
 use Rattle.uv_machine.specs.declared.call.InFlight.{InFlight}
@@ -16,8 +15,8 @@ use Rattle.uv_run.specs.declared.heard.Event.TheVariants as event
 use Rattle.uv_run.specs.declared.heard.Heard.{Heard}
 use Rattle.uv_run.specs.declared.flights.Flights.{Flights}
 use Rattle.uv_run.specs.Progress.{AdvancesBy, AllStuck, IsStuck, Lowers, LowersOn, LowersOne, StuckOn, ahead}
-use Rattle.uv_run.specs.Runs.{StaysIdle, StaysSound}
-use Rattle.uv_run.specs.Site.{Site, Turned, event_of, is_busy, silence, teardown_of}
+use Rattle.uv_run.specs.Runs.{StaysSound}
+use Rattle.uv_run.specs.Site.{Site, Turned, event_of, is_busy, teardown_of}
 use Rattle.uv_run.specs.Sound.{IsSound, Moved, site_of}
 use Rattle.uv_run.specs.Turns.{awaited, is_on}
 use Rattle.uv_run.proofs.Once.{idle_event}

@@ -1,13 +1,11 @@
 -- Where an actor has to wait for a file, another one on it can go on.
-use Rattle.std.proofs.Common.{◌≡◌, ℕ, zero, suc, ◌+◌, ◌<◌, ◌≤◌, Bool, true, false, List, [], ◌∷◌, Option, Some, None, count_by, slice_get, refl, ap, sym, ◌∙◌, subst, arith, inl, inr}
+use Rattle.std.proofs.Common.{◌≡◌, ℕ, suc, ◌+◌, ◌≤◌, Bool, true, false, List, [], ◌∷◌, Option, Some, None, count_by, slice_get, refl, ap, sym, ◌∙◌, subst, arith}
 use Rattle.std.specs.Prelude.{◌≢◌, ◌==◌, ◌||◌, cond, not, is_none}
 use Rattle.std.proofs.lemmas.Bool.{eq-eqb}
 use Rattle.std.proofs.lemmas.List.Sums.{sum_by-cons}
 use Rattle.uv_num.specs.declared.limits.TheConstants.{ACTORS, CLIENTS, DRIVER}
 use Rattle.uv_machine.specs.declared.call.InFlight.{InFlight}
-use Rattle.uv_machine.specs.declared.file.FilePhase.{FilePhase}
 use Rattle.uv_machine.specs.declared.file.FilePhase.TheVariants as file
-use Rattle.uv_machine.specs.declared.state.State.{State}
 use Rattle.uv_machine.specs.Histories.{IsActor, state_of}
 use Rattle.uv_machine.specs.Plans.{is_call_on}
 use Rattle.uv_machine.specs.States.{call_of, phase_of, is_removing}
@@ -19,9 +17,9 @@ use Rattle.uv_run.specs.declared.flight.Teardown.TheVariants.{Closing, Unpluggin
 use Rattle.uv_run.specs.declared.heard.Event.{Event}
 use Rattle.uv_run.specs.declared.heard.Event.TheVariants as event
 use Rattle.uv_run.specs.declared.flights.Flights.{Flights}
-use Rattle.uv_run.specs.Progress.{AllStuck, IsStuck, StuckOn, WaitsForCalls, WaitsForTear}
-use Rattle.uv_run.specs.Site.{Site, is_busy, state_at, teardown_of, torn_by}
-use Rattle.uv_run.specs.Sound.{FitsIn, IsSound, TeardownFits, TearsOnly, site_of}
+use Rattle.uv_run.specs.Progress.{AllStuck, IsStuck}
+use Rattle.uv_run.specs.Site.{Site, state_at, teardown_of, torn_by}
+use Rattle.uv_run.specs.Sound.{IsSound, TeardownFits, TearsOnly, site_of}
 use Rattle.uv_run.specs.Turns.{awaited, is_on, is_teardown_on}
 use Rattle.uv_run.proofs.CallSounds.{client_of_call}
 use Rattle.uv_run.proofs.Tears.{tearing_is, torn_none, torn_some}

@@ -1,5 +1,5 @@
 -- What lines ask of the site.
-use Rattle.std.specs.Prelude.{ℕ, Bool, true, false, ◌==◌, List, [], ◌∷◌, Option, Result, Ok, Err, option_map}
+use Rattle.std.specs.Prelude.{ℕ, List, [], ◌∷◌, Option, Result, Ok, Err, option_map}
 use Rattle.uv_num.specs.declared.errno.Errno.{Errno}
 use Rattle.uv_num.specs.declared.kind.Kind.{Kind}
 use Rattle.uv_num.specs.declared.kind.Kind.TheVariants as kind

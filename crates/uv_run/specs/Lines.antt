@@ -11,7 +11,7 @@ use Rattle.uv_script.specs.declared.form.Form.TheVariants as form
 use Rattle.uv_script.specs.declared.form.Line.{Line}
 use Rattle.uv_run.specs.declared.flight.Task.{Task}
 use Rattle.uv_run.specs.declared.reply.Telling.TheVariants.{Plus, ToEnd, Dying}
-use Rattle.uv_run.specs.Site.{Site, Turned, state_at, is_busy, closes, Begins}
+use Rattle.uv_run.specs.Site.{Turned, state_at, is_busy, closes, Begins}
 use Rattle.uv_run.specs.Stand.{Stand, with_begun, after_turned, with_said}
 use Rattle.uv_run.specs.Turns.{after_event, after_waiting, RunsOut}
 use Rattle.uv_run.specs.Chains.{Chain}

@@ -1,9 +1,8 @@
 -- How far a run to the end has come, and how an event takes it on.
-use Rattle.std.specs.Prelude.{ℕ, ◌≡◌, ◌≢◌, ◌<◌, ◌≤◌, ◌+◌, ◌⊎◌, ◌==◌, Bool, true, false, List, Option, None, Some, sum_by, length}
+use Rattle.std.specs.Prelude.{ℕ, ◌≡◌, ◌≢◌, ◌<◌, ◌≤◌, ◌+◌, ◌⊎◌, ◌==◌, true, false, List, Option, None, Some, sum_by, length}
 use Rattle.uv_machine.specs.declared.file.FilePhase.TheVariants as file
 use Rattle.uv_num.specs.declared.limits.TheConstants.{ACTORS}
 use Rattle.uv_machine.specs.Accounts.{owed}
-use Rattle.uv_machine.specs.Histories.{IsActor}
 use Rattle.uv_machine.specs.States.{call_of, phase_of}
 use Rattle.uv_graph.specs.Calls.{calls_on}
 use Rattle.uv_graph.specs.Conditions.{IsClient}

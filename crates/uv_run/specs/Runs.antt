@@ -1,6 +1,5 @@
 -- A run under way, as definitions see it.
-use Rattle.std.specs.Prelude.{ℕ, ◌≡◌, ◌≤◌, ◌+◌, false}
-use Rattle.uv_graph.specs.Kept.{Kept, spare_of}
+use Rattle.std.specs.Prelude.{ℕ, ◌≡◌, false}
 use Rattle.uv_run.specs.declared.running.Run.{Run}
 use Rattle.uv_run.specs.declared.flights.Flights.{Flights}
 use Rattle.uv_num.specs.declared.limits.TheConstants.{ENDER}

@@ -1,10 +1,9 @@
 -- The machine, what its objects hold, and the teardowns in flight at it: what one event makes of them. Nothing here knows of lines, names or texts.
-use Rattle.std.specs.Prelude.{ℕ, zero, suc, ◌≡◌, ◌++◌, Bool, true, false, not, ◌&&◌, ◌||◌, ◌==◌, List, [], ◌∷◌, Option, None, Some, Result, Ok, Err, if◌then◌else◌, replicate, slice_get, is_none, position}
-use Rattle.std.specs.declared.alloc.AllocError.{AllocError}
+use Rattle.std.specs.Prelude.{ℕ, zero, suc, ◌≡◌, ◌++◌, Bool, not, ◌&&◌, ◌||◌, ◌==◌, List, [], ◌∷◌, Option, None, Some, if◌then◌else◌, replicate, slice_get, is_none, position}
 use Rattle.uv_num.specs.Place.{at_place}
 use Rattle.uv_num.specs.Request.{role_of}
 use Rattle.uv_num.specs.declared.errno.Errno.{Errno}
-use Rattle.uv_num.specs.declared.errno.Errno.TheVariants.{BadF, Io, NoMem}
+use Rattle.uv_num.specs.declared.errno.Errno.TheVariants.{BadF, Io}
 use Rattle.uv_num.specs.declared.kind.Kind.{Kind}
 use Rattle.uv_num.specs.declared.qp.QpState.{QpState}
 use Rattle.uv_num.specs.declared.request.Request.{Request}
@@ -32,7 +31,6 @@ use Rattle.uv_graph.specs.Owns.{tears_it}
 use Rattle.uv_graph.specs.Seats.{slot_of}
 use Rattle.uv_graph.specs.Slots.{put_slot}
 use Rattle.uv_graph.specs.Turns.{is_exit, step_entry}
-use Rattle.uv_model.specs.declared.left.Left.{Left}
 use Rattle.uv_model.specs.Standing.{left_of}
 use Rattle.uv_world.specs.Holdings.{Held, no_contents}
 use Rattle.uv_world.specs.Moving.{actions_in, held_after, held_in_slot}

@@ -1,5 +1,5 @@
 -- What stands between two events: the site, the lines that began what is in flight, the replies, and what was told.
-use Rattle.std.specs.Prelude.{ℕ, ◌+◌, ◌++◌, Bool, true, false, ◌==◌, nat_lt, List, [], ◌∷◌, Option, None, Some, if◌then◌else◌, slice_get, unwrap_or, find, option_to_list, reverse}
+use Rattle.std.specs.Prelude.{ℕ, ◌+◌, ◌++◌, Bool, ◌==◌, nat_lt, List, [], ◌∷◌, Option, None, Some, if◌then◌else◌, slice_get, unwrap_or, find, option_to_list, reverse}
 use Rattle.uv_num.specs.Place.{at_place}
 use Rattle.uv_num.specs.declared.kind.Kind.{Kind}
 use Rattle.uv_num.specs.declared.kind.Kind.TheVariants as kind

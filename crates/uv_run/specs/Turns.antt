@@ -1,5 +1,5 @@
 -- Events one after the other: a run to the end.
-use Rattle.std.specs.Prelude.{ℕ, zero, suc, ◌≡◌, ◌+◌, Bool, true, false, not, ◌||◌, ◌==◌, Option, None, Some, if◌then◌else◌}
+use Rattle.std.specs.Prelude.{ℕ, zero, suc, ◌≡◌, ◌+◌, Bool, false, not, ◌||◌, ◌==◌, Option, None, Some, if◌then◌else◌}
 use Rattle.uv_num.specs.declared.limits.TheConstants.{ACTORS}
 use Rattle.uv_machine.specs.Plans.{is_call_on}
 use Rattle.uv_machine.specs.States.{call_of, phase_of, is_removing}

@@ -12,8 +12,8 @@ ghost use Rattle.uv_run.specs.Sound.{site_of, HasSpares, IsSound, Moved};
 ghost use Rattle.uv_run.specs.Sound.{Began};
 
 use crate::flight::{Task, Teardown};
-use crate::heard::{Event, Heard};
 use crate::flights::{Flights, ends_with, goes_on};
+use crate::heard::{Event, Heard};
 use std::alloc::Global;
 use uv_machine::Answer;
 use uv_num::{Put, Request, change_at};

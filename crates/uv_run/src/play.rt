@@ -15,10 +15,10 @@ ghost use Rattle.uv_run.specs.Site.{is_busy};
 ghost use Rattle.uv_run.specs.Sound.{IsSound, is_ending, site_of};
 ghost use Rattle.uv_run.specs.declared.reply.Telling.TheVariants.{ToEnd};
 
+use crate::flights::Flights;
 use crate::reply::Telling;
 use crate::running::Run;
 use crate::sayings::awaited;
-use crate::flights::Flights;
 use std::alloc::{AllocError, Global};
 use uv_model::{Left, left_in};
 use uv_num::{DRIVER, ENDER, FILES, List};

@@ -11,11 +11,11 @@ ghost use Rattle.uv_run.specs.Stand.{after_turned, begun_by, said_if, with_said}
 ghost use Rattle.uv_run.specs.Turns.{after_event, is_on, one_turn, other_goes, others_go, others_if, RunsOut};
 ghost use Rattle.uv_run.specs.Runs.{StaysSound, stand_of};
 
+use crate::flights::Flights;
 use crate::heard::{Event, Heard};
 use crate::replies::Replies;
 use crate::reply::{Reply, Telling};
 use crate::sayings::{awaited, event_line, event_text, reply_by, reply_text};
-use crate::flights::Flights;
 use std::alloc::{AllocError, Global};
 use uv_num::{ACTOR_PLACES, ACTORS, List};
 use uv_report::{Said, Saying};

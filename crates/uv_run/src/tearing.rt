@@ -16,8 +16,8 @@ ghost use Rattle.uv_run.specs.declared.heard.Event.TheVariants as event;
 ghost use Rattle.uv_run.specs.Site.{goes_on};
 
 use crate::flight::{Killed, Teardown};
-use crate::heard::{Event, Heard};
 use crate::flights::{Flights, ends_with, goes_on};
+use crate::heard::{Event, Heard};
 use uv_core::Torn;
 use uv_machine::Answer;
 use uv_model::Left;

@@ -1,4 +1,4 @@
-use Rattle.std.proofs.Common.{◌≡◌, List, ap, filter, map, subst, sym, ◌∙◌}
+use Rattle.std.proofs.Common.{List, ap, filter, map, subst, sym, ◌∙◌}
 use Rattle.uv_machine.specs.declared.entry.Entry.{Entry}
 use Rattle.uv_machine.specs.declared.object.Object.{Object}
 use Rattle.uv_machine.specs.Files.{AreOver}

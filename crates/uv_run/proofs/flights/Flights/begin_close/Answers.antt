@@ -1,4 +1,3 @@
-use Rattle.std.proofs.Common.{arith}
 use Rattle.uv_run.proofs.Beginnings.{closing_moved}
 use Rattle.uv_run.proofs.Sounds.{moved_then}
 use Rattle.uv_run.proofs.flights.Flights.begin_close.Goals as goal

@@ -1,4 +1,4 @@
-use Rattle.std.proofs.Common.{◌≡◌, ◌∙◌, Option, Some, ap, arith, refl, sym}
+use Rattle.std.proofs.Common.{◌∙◌, Option, ap, arith, refl, sym}
 use Rattle.uv_machine.specs.declared.call.InFlight.{InFlight}
 use Rattle.uv_machine.specs.Histories.{state_of}
 use Rattle.uv_machine.specs.States.{call_of}

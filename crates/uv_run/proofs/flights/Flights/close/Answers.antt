@@ -1,4 +1,4 @@
-use Rattle.std.proofs.Common.{◌≡◌, ◌∙◌, Option, None, ap, arith, inl, inr, refl, subst, sym}
+use Rattle.std.proofs.Common.{◌∙◌, ap, arith, inl, inr, refl, subst, sym}
 use Rattle.uv_machine.specs.declared.entry.Entry.TheVariants.{Tear}
 use Rattle.uv_machine.specs.Histories.{state_of}
 use Rattle.uv_machine.specs.States.{phase_of}

@@ -1,5 +1,4 @@
-use Rattle.std.proofs.Common.{◌≡◌, ◌∙◌, ℕ, Some, ap, arith, inl, refl, subst, sym}
-use Rattle.std.specs.Prelude.{◌++◌}
+use Rattle.std.proofs.Common.{◌∙◌, ℕ, ap, arith, inl, refl}
 use Rattle.uv_num.specs.Place.{at_place}
 use Rattle.uv_machine.specs.declared.entry.Entry.TheVariants.{Gone}
 use Rattle.uv_graph.specs.Slots.{put_slot}

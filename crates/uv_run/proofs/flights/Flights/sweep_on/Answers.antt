@@ -1,27 +1,17 @@
-use Rattle.std.proofs.Common.{◌≡◌, ◌∙◌, ℕ, List, Some, None, ap, arith, inl, inr, refl, subst, sym}
-use Rattle.std.specs.Prelude.{◌≤◌, ◌==◌, sum_by}
-use Rattle.uv_num.specs.Place.{at_place}
-use Rattle.uv_machine.specs.declared.entry.Entry.{Entry}
+use Rattle.std.proofs.Common.{◌≡◌, ◌∙◌, ap, inl, inr, refl, subst, sym}
 use Rattle.uv_machine.specs.declared.entry.Entry.TheVariants.{Kill}
-use Rattle.uv_machine.specs.Histories.{state_of}
-use Rattle.uv_graph.specs.Calls.{calls_on}
 use Rattle.uv_graph.specs.Owns.{own_of}
-use Rattle.uv_graph.specs.Slots.{put_slot}
 use Rattle.uv_graph.specs.Turns.{last_entry}
 use Rattle.uv_world.specs.declared.world.World.{World}
-use Rattle.uv_world.specs.declared.tearing.Turn.{Turn}
-use Rattle.uv_world.specs.Celled.{value_of_slot}
 use Rattle.uv_world.specs.Seating.{IsWorld, stage_of}
-use Rattle.uv_world.specs.Stages.{Stage, stage_then}
-use Rattle.uv_world.specs.Tearing.{object_doomed, object_killed, stage_swept}
+use Rattle.uv_world.specs.Tearing.{object_doomed, object_killed}
 use Rattle.uv_run.specs.declared.flights.Flights.{Flights}
 use Rattle.uv_run.specs.declared.heard.Heard.{Heard}
 use Rattle.uv_run.specs.Progress.{IsStuck}
-use Rattle.uv_run.specs.Site.{swept_turn}
 use Rattle.uv_run.specs.Sound.{site_of}
 use Rattle.uv_run.proofs.Lowering.{entry_lowers}
-use Rattle.uv_run.proofs.Sites.{still_site, still_turned}
-use Rattle.uv_run.proofs.Sounds.{doomed_is, doomed_none, more_of, moved_then, object_kept}
+use Rattle.uv_run.proofs.Sites.{still_site}
+use Rattle.uv_run.proofs.Sounds.{doomed_none, more_of, moved_then, object_kept}
 use Rattle.uv_run.proofs.Sweeps.{done_turned, kept_fewer, kill_of, kill_turned, not_turned, swept_at, swept_out}
 use Rattle.uv_run.proofs.TearSounds.{actor_is, done_moved, kill_moved, last_free, still_moved}
 use Rattle.uv_run.proofs.TearTurns.{swept_done, swept_kill, swept_not}

@@ -1,14 +1,8 @@
-use Rattle.std.proofs.Common.{◌≡◌, ◌∙◌, ℕ, ◌≤◌, Bool, true, false, Result, Ok, Err, ap, refl, subst, sym}
-use Rattle.std.specs.Prelude.{if◌then◌else◌}
-use Rattle.uv_num.specs.declared.limits.TheConstants.{DRIVER}
-use Rattle.uv_machine.specs.Histories.{state_of}
-use Rattle.uv_machine.specs.States.{is_unplugged}
+use Rattle.std.proofs.Common.{◌∙◌, ℕ, ap, subst, sym}
 use Rattle.uv_core.specs.Beside.{OthersKeep}
-use Rattle.uv_world.specs.declared.world.Doomed.{Doomed}
 use Rattle.uv_world.specs.Celled.{value_of_slot}
 use Rattle.uv_world.specs.Seating.{IsAtRest, stage_of}
 use Rattle.uv_world.specs.Tearing.{object_doomed, stage_unplugged}
-use Rattle.uv_run.specs.Sound.{site_of}
 use Rattle.uv_run.proofs.Beginnings.{idle_rests, pull_again, pull_first, unplug_again, unplug_first, unplug_moved}
 use Rattle.uv_run.proofs.TearSounds.{still_moved}
 use Rattle.uv_run.proofs.flights.Flights.unplug.Goals as goal

@@ -6,7 +6,6 @@ use Rattle.uv_run.specs.Sound.{site_of}
 use Rattle.uv_run.specs.Stand.{Stand}
 use Rattle.uv_run.specs.Turns.{RunsOut}
 use Rattle.uv_run.specs.declared.flights.Flights.{Flights}
-use Rattle.uv_run.specs.Runs.{StaysSound}
 use Rattle.uv_run.specs.Sound.{Moved}
 use Rattle.uv_run.proofs.RunSounds.{close_stays, on_both, on_ok, stays_then, waits_from}
 use Rattle.uv_run.proofs.running.Run.close_file.Goals as goal

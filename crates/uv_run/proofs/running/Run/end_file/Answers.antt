@@ -1,4 +1,4 @@
-use Rattle.std.proofs.Common.{◌≡◌, Bool, ap, sym, true, ◌∙◌}
+use Rattle.std.proofs.Common.{◌≡◌, ap, true, ◌∙◌}
 use Rattle.uv_machine.specs.Histories.{state_of}
 use Rattle.uv_machine.specs.States.{phase_of}
 use Rattle.uv_run.specs.declared.flights.Flights.{Flights}

@@ -1,11 +1,9 @@
-use Rattle.std.proofs.Common.{◌≡◌, ℕ, ◌+◌, ◌≤◌, arith, false, subst, sym, ⊎_elim}
+use Rattle.std.proofs.Common.{◌≡◌, ℕ, arith, subst}
 use Rattle.std.specs.List.{range_with_len}
-use Rattle.std.proofs.lemmas.Bool.{cases_lt}
 use Rattle.uv_num.specs.declared.limits.TheConstants.{DRIVER, ENDER}
 use Rattle.uv_run.specs.declared.reply.Telling.TheVariants.{ToEnd}
 use Rattle.uv_run.specs.Follows.{RunsOutAll, all_actors}
 use Rattle.uv_run.specs.Runs.{stand_of}
-use Rattle.uv_run.specs.Site.{is_busy}
 use Rattle.uv_run.specs.Sound.{site_of}
 use Rattle.uv_run.specs.Turns.{RunsOut}
 use Rattle.uv_run.proofs.ChainLaws.{Chain-upto}

@@ -1,4 +1,4 @@
-use Rattle.std.proofs.Common.{◌≡◌, ap, false, ◌∙◌}
+use Rattle.std.proofs.Common.{ap, ◌∙◌}
 use Rattle.uv_num.specs.declared.limits.TheConstants.{ENDER}
 use Rattle.uv_run.specs.Site.{Site, is_busy}
 use Rattle.uv_run.proofs.Starts.{start_idle}

@@ -1,4 +1,4 @@
-use Rattle.std.proofs.Common.{◌≡◌, ℕ, suc, ◌+◌, ap, arith, refl, sym, ◌∙◌}
+use Rattle.std.proofs.Common.{◌≡◌, ℕ, suc, ◌+◌, ap, arith, refl, ◌∙◌}
 use Rattle.uv_run.specs.Runs.{stand_of}
 use Rattle.uv_run.specs.Sound.{site_of}
 use Rattle.uv_run.specs.Turns.{other_goes, others_of}

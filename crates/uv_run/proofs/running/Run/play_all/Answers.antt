@@ -1,4 +1,4 @@
-use Rattle.std.proofs.Common.{arith, ◌≤◌}
+use Rattle.std.proofs.Common.{arith}
 use Rattle.uv_run.specs.Runs.{stand_of}
 use Rattle.uv_run.proofs.Marking.{marks_more, no_marks}
 use Rattle.uv_run.proofs.RunSounds.{no_ranges, ranges_more, room_more}
