@@ -22,11 +22,6 @@ use Rattle.uv_run.specs.Site.{last_of}
 use Rattle.uv_run.specs.Sound.{EndsStay, is_ending}
 use Rattle.uv_run.proofs.MachineLaws.{files_stand_apart, phases_stand_apart, state_goes_on}
 
-pub ends_same : (old new : Kept) → new ≡ old → EndsStay (state_of old.history) (state_of new.history)
-ends_same old new e =
-    let P : Kept → Type 0 = λ v. EndsStay (state_of old.history) (state_of v.history) in
-    subst P (sym e) (λ f is. is)
-
 pub ends_entry : (old new : Kept) (e : Entry) → new.history ≡ old.history ++ e ∷ [] → EndsStay (state_of old.history) (after (state_of old.history) e) → EndsStay (state_of old.history) (state_of new.history)
 ends_entry old new e more ends =
     let P : State → Type 0 = λ v. EndsStay (state_of old.history) v in
