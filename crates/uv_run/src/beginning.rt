@@ -1,6 +1,6 @@
 //! What actors begin at the site.
 
-ghost use Rattle.std.specs.Prelude.{◌≡◌, ◌≢◌, ◌≤◌, ◌<◌, ◌+◌, false, true};
+ghost use Rattle.std.specs.Prelude.{◌≡◌, ◌≢◌, ◌<◌, false, true};
 ghost use Rattle.uv_num.specs.Ranges.{is_in_range};
 ghost use Rattle.uv_num.specs.declared.limits.TheConstants.{DEVICES, DRIVER, FILES};
 ghost use Rattle.uv_machine.specs.Effects.{refusal_in};

@@ -1,17 +1,15 @@
 //! The site as a program: the world, and beside it the teardowns in flight.
 
-ghost use Rattle.std.specs.Prelude.{◌≡◌, ◌≢◌, ◌≤◌, ◌<◌, ◌+◌, IfOk, None, Some, true, false, length, slice_get};
-ghost use Rattle.uv_num.specs.declared.limits.TheConstants.{ACTOR_PLACES, DEVICES, DRIVER, FILES, SCRIPT_LINES};
-ghost use Rattle.uv_machine.specs.declared.entry.Answer.TheVariants as answer;
-ghost use Rattle.uv_machine.specs.Histories.{IsActor, IsLegal, state_of};
+ghost use Rattle.std.specs.Prelude.{◌≡◌, ◌<◌, IfOk, None, Some, false, slice_get};
+ghost use Rattle.uv_num.specs.declared.limits.TheConstants.{ACTOR_PLACES, FILES, SCRIPT_LINES};
+ghost use Rattle.uv_machine.specs.Histories.{state_of};
 ghost use Rattle.uv_machine.specs.States.{call_of, is_callable, phase_of};
 ghost use Rattle.uv_graph.specs.Seats.{TearsOnce};
 ghost use Rattle.uv_machine.specs.Plans.{is_call_on};
 ghost use Rattle.uv_run.specs.Lines.{is_clients};
 ghost use Rattle.uv_run.specs.Turns.{is_on, is_teardown_on};
-ghost use Rattle.uv_run.specs.Site.{start_site, is_busy, teardown_of, killed_of, event_of, call_turn, teardown_turn, tears_turn, begin_turn, close_turn, unplug_turn, removal_turn, sweep_turn, swept_turn, torn_by, file_ahead, file_below, is_ahead, or_this, made_kind, kind_in_call, goes_on, ends_with};
+ghost use Rattle.uv_run.specs.Site.{start_site, is_busy, teardown_of, killed_of, file_ahead, file_below, is_ahead, or_this, made_kind, kind_in_call, goes_on, ends_with};
 ghost use Rattle.uv_run.specs.Sound.{site_of, HasSpares, IsSound};
-ghost use Rattle.uv_run.specs.Steps.{MakesStep};
 
 use crate::flight::{Killed, Teardown};
 use crate::heard::{Ended, Event, Heard};

@@ -1,4 +1,4 @@
-//! A run: a script is read, its lines are played on the object core, and the report of what became of them is written.
+//! A run: a script is read, its lines are played on the world, and the report of what became of them is written.
 //!
 //! A program's `main` calls `start`, which has the clauses of `run`. They speak by `script_of`, the lines of a script's
 //! bytes, by `FollowsScript`, what a record has to do with lines, and by `report_of`, the bytes of a report.

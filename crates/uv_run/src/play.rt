@@ -1,4 +1,4 @@
-//! A whole script on the object core, from its first line to the close of the files.
+//! A whole script on the world, from its first line to the close of the files.
 
 ghost use Rattle.std.specs.Prelude.{◌≡◌, ◌≤◌, ◌<◌, IfOk, OnOk, true, false};
 ghost use Rattle.uv_num.specs.declared.limits.TheConstants.{ENDER, FILES};

@@ -1,11 +1,9 @@
 //! The events of teardowns at the site.
 
-ghost use Rattle.std.specs.Prelude.{◌≡◌, ◌≢◌, ◌<◌, ◌≤◌, None, Some, true, sum_by};
+ghost use Rattle.std.specs.Prelude.{◌≡◌, ◌≤◌, None, Some, sum_by};
 ghost use Rattle.uv_num.specs.Place.{at_place};
-ghost use Rattle.uv_num.specs.declared.limits.TheConstants.{DEVICES, DRIVER, FILES};
-ghost use Rattle.uv_machine.specs.Histories.{IsActor, IsLegal, state_of};
+ghost use Rattle.uv_machine.specs.Histories.{IsActor, state_of};
 ghost use Rattle.uv_machine.specs.States.{call_of, phase_of};
-ghost use Rattle.uv_graph.specs.Conditions.{Pulls};
 ghost use Rattle.uv_graph.specs.Owns.{own_of, TearsNone};
 ghost use Rattle.uv_graph.specs.Slots.{put_slot};
 ghost use Rattle.uv_run.specs.declared.flight.Teardown.TheVariants.{Closing, Unplugging};
