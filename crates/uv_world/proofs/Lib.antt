@@ -4,6 +4,7 @@ pub mod FirstFit
 pub mod Fit
 pub mod Fitted
 pub mod Living
+pub mod Named
 pub mod Newness
 pub mod Nexting
 pub mod Outlines

@@ -1,9 +1,13 @@
 pub mod Celled
+pub mod Completing
 pub mod Fitting
 pub mod Holdings
 pub mod Making
 pub mod Moving
+pub mod Named
 pub mod Owing
+pub mod Poking
+pub mod Posting
 pub mod Seating
 pub mod Stages
 pub mod Tearing

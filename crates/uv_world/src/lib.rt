@@ -5,6 +5,7 @@
 mod beginning;
 mod cells;
 mod changing;
+mod completing;
 mod content;
 mod contents;
 mod deeds;
@@ -12,6 +13,8 @@ mod finding;
 pub mod laws;
 mod making;
 mod naming;
+mod poking;
+mod posting;
 mod stepping;
 mod tearing;
 mod world;
