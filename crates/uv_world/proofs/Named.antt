@@ -16,7 +16,7 @@ use Rattle.uv_region.specs.Actions.{PlainAction}
 use Rattle.uv_region.specs.Registered.{Registered}
 use Rattle.uv_wr.specs.declared.tried.Tried.{Tried}
 use Rattle.uv_wr.specs.declared.tried.Tried.TheVariants.{Did, Inval, Full, Again, Dead, NoMemory}
-use Rattle.uv_wr.specs.Works.{Receiving}
+use Rattle.uv_wr.specs.Works.{Receiving, Sending}
 use Rattle.uv_world.specs.declared.cells.Cell.{Cell}
 use Rattle.uv_world.specs.declared.content.Connected.{Connected}
 use Rattle.uv_world.specs.declared.content.Shared.{Shared}
@@ -31,6 +31,7 @@ use Rattle.uv_world.specs.Owing.{IsHoused, counts_cell, counts_value, full_cells
 use Rattle.uv_world.specs.Poking.{held_acted, region_acted}
 use Rattle.uv_world.specs.Posting.{held_receive_posted, held_srq_posted, pair_with_receive, receive_tried, shared_tried, shared_with}
 use Rattle.uv_world.specs.Seating.{stage_of}
+use Rattle.uv_world.specs.Sending.{handle_of, held_send_posted, pair_with_send, send_tried, sending_by}
 use Rattle.uv_world.specs.Stages.{Stage}
 
 -- One cell.
@@ -54,9 +55,9 @@ if_count : {T : Type 0} (b : Bool) (f : T → T) (cell : Cell T) → counts_cell
 if_count true f cell = value_count f cell.value
 if_count false f cell = refl
 
-if_same : {T : Type 0} (b : Bool) (cell : Cell T) (v : Option T) → option_map (λ (x : T). x) v ≡ v
-if_same b cell None = refl
-if_same b cell (Some x) = refl
+value_same : {T : Type 0} (v : Option T) → option_map (λ (x : T). x) v ≡ v
+value_same None = refl
+value_same (Some x) = refl
 
 worth_kept : {X : Type 0} (c : X → ℕ) (f : X → X) → ((x : X) → c (f x) ≡ c x) → (o : Option X) → worth c (option_map f o) ≡ worth c o
 worth_kept c f keeps None = refl
@@ -73,7 +74,7 @@ pub under_count : {T : Type 0} (cells : List (Cell T)) (name : ℕ × ℕ) (f : 
 under_count cells name f = sum_kept counts_cell (cell_under name.1 f) (λ cell. if_count (cell.generation == name.1) f cell) cells name.0
 
 same_if : {T : Type 0} (b : Bool) (cell : Cell T) → (if b then cell_changed_by (λ (x : T). x) cell else cell) ≡ cell
-same_if true cell = ap (λ v. record cell { value = v }) (if_same true cell cell.value)
+same_if true cell = ap (λ v. record cell { value = v }) (value_same cell.value)
 same_if false cell = refl
 
 -- a change that leaves each item leaves the list
@@ -223,6 +224,22 @@ receive_posted_is h qp w (Full back) = pairs_same h qp
 receive_posted_is h qp w (Again word back) = pairs_same h qp
 receive_posted_is h qp w (Dead word back) = pairs_same h qp
 receive_posted_is h qp w (NoMemory back) = pairs_same h qp
+
+pub same_send_posted : (h : Held) (qp : ℕ × ℕ) (ah : Option (ℕ × ℕ)) (w : Sending) (answer : Tried Sending) → SameCells h (held_send_posted h qp ah w answer)
+same_send_posted h qp ah w Did = record { outlined = pair_outlines h qp (pair_with_send (sending_by (handle_of h ah) w)); pending = refl }
+same_send_posted h qp ah w (Inval back by_state) = same_itself h
+same_send_posted h qp ah w (Full back) = same_itself h
+same_send_posted h qp ah w (Again word back) = same_itself h
+same_send_posted h qp ah w (Dead word back) = same_itself h
+same_send_posted h qp ah w (NoMemory back) = same_itself h
+
+pub send_posted_is : (h : Held) (qp : ℕ × ℕ) (ah : Option (ℕ × ℕ)) (w : Sending) (answer : Tried Sending) → (let now : Held = record h { pairs = cells_under h.pairs qp (send_tried (sending_by (handle_of h ah) w) answer) } in now) ≡ held_send_posted h qp ah w answer
+send_posted_is h qp ah w Did = refl
+send_posted_is h qp ah w (Inval back by_state) = pairs_same h qp
+send_posted_is h qp ah w (Full back) = pairs_same h qp
+send_posted_is h qp ah w (Again word back) = pairs_same h qp
+send_posted_is h qp ah w (Dead word back) = pairs_same h qp
+send_posted_is h qp ah w (NoMemory back) = pairs_same h qp
 
 -- Stages.
 

@@ -9,6 +9,7 @@ pub mod Owing
 pub mod Poking
 pub mod Posting
 pub mod Seating
+pub mod Sending
 pub mod Stages
 pub mod Tearing
 pub mod Waiting

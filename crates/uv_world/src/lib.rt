@@ -15,6 +15,7 @@ mod making;
 mod naming;
 mod poking;
 mod posting;
+mod sending;
 mod stepping;
 mod tearing;
 mod world;
