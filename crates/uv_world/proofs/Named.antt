@@ -1,13 +1,11 @@
 -- A change of what a cell holds, by a call of the data path, leaves who holds it: the cells still fit their objects.
-use Rattle.std.proofs.Common.{◌≡◌, ◌≤◌, ◌+◌, ◌∙◌, ℕ, zero, suc, Bool, true, false, List, [], ◌∷◌, Option, None, Some, map, length, refl, sym, ap, subst, arith}
+use Rattle.std.proofs.Common.{◌≡◌, ◌+◌, ◌∙◌, ℕ, zero, suc, Bool, true, false, List, [], ◌∷◌, Option, None, Some, map, length, refl, sym, ap, subst, arith}
 use Rattle.std.specs.Prelude.{◌==◌, slice_get, option_map, sum_by, if◌then◌else◌}
 use Rattle.uv_num.specs.declared.kind.Kind.{Kind}
 use Rattle.uv_num.specs.declared.kind.Kind.TheVariants as kind
 use Rattle.uv_num.specs.Place.{at_place}
 use Rattle.uv_num.proofs.PlaceLaws.{at_place-cons, map-at_place}
 use Rattle.uv_machine.proofs.Sums.{worth, sum_by-at_place_worth}
-use Rattle.uv_machine.specs.Histories.{state_of}
-use Rattle.uv_machine.specs.Made.{is_live_cell}
 use Rattle.uv_queue.specs.Order.{without_oldest}
 use Rattle.uv_region.specs.declared.region.ActTried.{ActTried}
 use Rattle.uv_region.specs.declared.region.ActTried.TheVariants as act
@@ -24,10 +22,10 @@ use Rattle.uv_world.specs.declared.contents.Contents.{Contents}
 use Rattle.uv_world.specs.declared.world.World.{World}
 use Rattle.uv_world.specs.Celled.{cell_changed_by}
 use Rattle.uv_world.specs.Completing.{held_armed, held_event_taken, held_polled, ring_armed, ring_polled}
-use Rattle.uv_world.specs.Fitting.{CellsFit, HasCells, StageFits, has_content, holds_under, outline, outlines, something}
+use Rattle.uv_world.specs.Fitting.{StageFits, holds_under, outline, outlines, something}
 use Rattle.uv_world.specs.Holdings.{Held, held_of}
 use Rattle.uv_world.specs.Named.{cell_under, cells_under}
-use Rattle.uv_world.specs.Owing.{IsHoused, counts_cell, counts_value, full_cells}
+use Rattle.uv_world.specs.Owing.{counts_cell, counts_value, full_cells}
 use Rattle.uv_world.specs.Poking.{held_acted, region_acted}
 use Rattle.uv_world.specs.Posting.{held_receive_posted, held_srq_posted, pair_with_receive, receive_tried, shared_tried, shared_with}
 use Rattle.uv_world.specs.Seating.{stage_of}

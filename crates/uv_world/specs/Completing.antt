@@ -11,7 +11,7 @@ use Rattle.uv_wr.specs.declared.tried.EventTried.TheVariants as event
 use Rattle.uv_cq.specs.Rings.{after_arm, after_poll}
 use Rattle.uv_world.specs.declared.content.Belled.{Belled}
 use Rattle.uv_world.specs.Holdings.{Held}
-use Rattle.uv_world.specs.Named.{cells_under, value_named}
+use Rattle.uv_world.specs.Named.{cells_under}
 
 -- Polls: the oldest completion is told, and leaves its queue.
 

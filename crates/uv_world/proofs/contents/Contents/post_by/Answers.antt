@@ -17,7 +17,7 @@ returns-in-Some-clause-held c =
     let found : value_named old.addresses c.args.ah ≡ Some c.in-Some.handle = sym c.handle_named.ensures ∙ c.in-Some.is in
     let work = c.to_handle-work.ensures ∙ ap (λ (a : Option Addressed). sending_by a c.args.work) (sym found) in
     ap (λ (cells : List (Cell Connected)). record (held_of old) { pairs = cells })
-        (c.post_send.ensures.pairs ∙ ap (λ (w : Sending). cells_under old.pairs c.args.qp (send_tried w c.post_send.result)) work)
+    (c.post_send.ensures.pairs ∙ ap (λ (w : Sending). cells_under old.pairs c.args.qp (send_tried w c.post_send.result)) work)
     ∙ send_posted_is (held_of old) c.args.qp (Some c.args.ah) c.args.work c.post_send.result
 
 pub returns-in-Some-clause-housed : goal.returns-in-Some-clause-housed
