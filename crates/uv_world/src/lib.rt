@@ -18,6 +18,8 @@ mod posting;
 mod sending;
 mod stepping;
 mod tearing;
+#[cfg(test)]
+mod tests;
 mod world;
 
 pub use cells::Cell;
