@@ -3,6 +3,7 @@ pub mod Counts
 pub mod FirstFit
 pub mod Fit
 pub mod Fitted
+pub mod Lends
 pub mod Living
 pub mod Named
 pub mod Newness

@@ -2,6 +2,7 @@ pub mod Celled
 pub mod Completing
 pub mod Fitting
 pub mod Holdings
+pub mod Lending
 pub mod Making
 pub mod Moving
 pub mod Named

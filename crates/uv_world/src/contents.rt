@@ -312,7 +312,7 @@ impl Contents {
 }
 
 /// The id of the region in a cell.
-fn region_id(regions: &List<Cell<Region>>, at: u32) -> u32
+pub(crate) fn region_id(regions: &List<Cell<Region>>, at: u32) -> u32
     ensures { result ≡ region_id (value_of_cell regions.now at) }
 {
     match regions.get(at as usize) {

@@ -11,6 +11,7 @@ mod contents;
 mod deeds;
 mod finding;
 pub mod laws;
+mod lending;
 mod making;
 mod naming;
 mod poking;
