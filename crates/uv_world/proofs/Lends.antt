@@ -1,5 +1,5 @@
 -- How far a lending has come.
-use Rattle.std.proofs.Common.{◌≡◌, ◌≤◌, ◌<◌, ◌+◌, ℕ, suc, Bool, true, false, cond, List, [], ◌∷◌, Option, None, Some, length, drop, get_or, refl, sym, ap, subst, ◌∙◌, arith, drop-cons}
+use Rattle.std.proofs.Common.{◌≡◌, ◌≤◌, ◌<◌, ◌+◌, ◌-◌, ℕ, suc, Bool, true, false, cond, List, [], ◌∷◌, Option, None, Some, length, drop, get_or, refl, sym, ap, subst, ◌∙◌, arith, drop-cons}
 use Rattle.std.proofs.lemmas.Cmp.{nat_cmp_total}
 use Rattle.std.specs.Cmp.{unsigned_tied}
 use Rattle.std.specs.FinMap as map
@@ -12,7 +12,7 @@ use Rattle.uv_world.specs.declared.cells.Cell.{Cell}
 use Rattle.uv_world.specs.declared.content.Windowed.{Windowed}
 use Rattle.uv_world.specs.declared.lending.Reach.{Reach}
 use Rattle.uv_world.specs.Celled.{value_of_cell}
-use Rattle.uv_world.specs.Lending.{AreDifferent, Lending, lend_all, lend_one, lend_reached, lend_value, nothing_lent, reach_of}
+use Rattle.uv_world.specs.Lending.{AreDifferent, Lending, lend_all, lend_one, lend_reached, lend_value, nothing_lent, reach_of, return_all, return_one}
 
 abbrev pub lending : List (Cell Registered) → Lent → Lending
 lending regions lent = record { regions = regions; lent = lent }
@@ -23,11 +23,11 @@ pub record IsLendingOn (windows : List (Cell Windowed)) (start : Lending) (regio
   pub apart : Each (λ k. map.get lent k ≡ None) (drop at keys)
   pub different : AreDifferent (drop at keys)
 
-each_by_two : {X : Type 0} (P Q R : X → Type 0) (xs : List X) → Each P xs → Each Q xs → ((x : X) → P x → Q x → R x) → Each R xs
+pub each_by_two : {X : Type 0} (P Q R : X → Type 0) (xs : List X) → Each P xs → Each Q xs → ((x : X) → P x → Q x → R x) → Each R xs
 each_by_two P Q R [] p q f = tt
 each_by_two P Q R (x ∷ xs) p q f = (f x p.0 q.0, each_by_two P Q R xs p.1 q.1 f)
 
-none_there : (keys : List ℕ) → Each (λ k. map.get (map.empty {X = ReachedRegion} {R = nat_cmp}) k ≡ None) keys
+pub none_there : (keys : List ℕ) → Each (λ k. map.get (map.empty {X = ReachedRegion} {R = nat_cmp}) k ≡ None) keys
 none_there [] = tt
 none_there (k ∷ keys) = (map.get-empty nat_cmp k, none_there keys)
 
@@ -59,7 +59,7 @@ apart_value l key k reach (Some r) none other =
     map.get-insert nat_cmp_total l.lent key (r, reach.window) k
     ∙ ap (λ b. cond b (Some (r, reach.window)) (map.get l.lent k)) (unsigned_tied k key ∙ other) ∙ none
 
-apart_reached : (l : Lending) (key k : ℕ) (o : Option Reach) → map.get l.lent k ≡ None → (k == key) ≡ false → map.get (lend_reached l key o).lent k ≡ None
+pub apart_reached : (l : Lending) (key k : ℕ) (o : Option Reach) → map.get l.lent k ≡ None → (k == key) ≡ false → map.get (lend_reached l key o).lent k ≡ None
 apart_reached l key k None none other = none
 apart_reached l key k (Some reach) none other = apart_value l key k reach (value_of_cell l.regions reach.region) none other
 
@@ -86,3 +86,19 @@ lending-preserved windows start regions now lent after keys at key less is on c 
     let P : List (Cell Registered) → Type 0 = λ v. IsLendingOn windows start v after keys (at + 1) in
     let Q : Lent → Type 0 = λ v. IsLendingOn windows start next.regions v keys (at + 1) in
     subst P (sym c) (subst Q (sym d) record { goes = m.0; count = m.1; apart = m.2; different = m.3 })
+
+-- one more key has given back, the last that was lent first
+pub given-back : (windows : List (Cell Windowed)) (before : Lending) (regions now : List (Cell Registered)) (lent after : Lent) (keys : List ℕ) (turn at : ℕ)
+    → turn < length keys → at ≡ length keys - 1 - turn → lending regions lent ≡ return_all windows before (drop (length keys - turn) keys)
+    → now ≡ (return_one windows (lending regions lent) (get_or keys at 0)).regions → after ≡ (return_one windows (lending regions lent) (get_or keys at 0)).lent
+    → lending now after ≡ return_all windows before (drop (length keys - (turn + 1)) keys)
+given-back windows before regions now lent after keys turn at less is on c d =
+    let key : ℕ = get_or keys at 0 in
+    let first : length keys - (turn + 1) ≡ at = omega (arith, less, is) in
+    let within : at < length keys = omega (arith, less, is) in
+    let more : suc at ≡ length keys - turn = omega (arith, less, is) in
+    let e : drop (length keys - (turn + 1)) keys ≡ key ∷ drop (length keys - turn) keys =
+    ap (λ n. drop n keys) first ∙ (drop-cons keys at 0 within ∙ ap (λ n. key ∷ drop n keys) more) in
+    let one : lending now after ≡ return_one windows (lending regions lent) key =
+    ap (λ v. lending v after) c ∙ ap (λ v. lending (return_one windows (lending regions lent) key).regions v) d in
+    one ∙ (ap (λ v. return_one windows v key) on ∙ sym (ap (return_all windows before) e))

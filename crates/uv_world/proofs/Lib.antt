@@ -11,6 +11,7 @@ pub mod Nexting
 pub mod Outlines
 pub mod Ranged
 pub mod Rested
+pub mod Returns
 pub mod Seating
 pub mod Slots
 pub mod Starting

@@ -35,7 +35,7 @@ use Rattle.uv_world.specs.Moving.{address_named, bound_over, held_at, held_broug
 
 -- One list of cells.
 
-changed_outline : {X Y : Type 0} (s : X → Y) (f : X → X) (f' : Y → Y) → ((x : X) → s (f x) ≡ f' (s x)) → (xs : List X) (i : ℕ) → map s (at_place xs i f) ≡ at_place (map s xs) i f'
+pub changed_outline : {X Y : Type 0} (s : X → Y) (f : X → X) (f' : Y → Y) → ((x : X) → s (f x) ≡ f' (s x)) → (xs : List X) (i : ℕ) → map s (at_place xs i f) ≡ at_place (map s xs) i f'
 changed_outline s f f' h [] i = refl
 changed_outline s f f' h (x ∷ xs) zero = ap (λ y. y ∷ map s xs) (h x)
 changed_outline s f f' h (x ∷ xs) (suc i) =

@@ -1,5 +1,5 @@
 -- Which regions are lent to a packet action, by the keys that it wants, and what comes back.
-use Rattle.std.specs.Prelude.{ℕ, ◌≡◌, ◌==◌, ◌%◌, Bool, true, false, if◌then◌else◌, Option, None, Some, List, [], ◌∷◌, slice_get}
+use Rattle.std.specs.Prelude.{ℕ, ◌≡◌, ◌==◌, ◌%◌, false, if◌then◌else◌, Option, None, Some, List, [], ◌∷◌, is_some, map, slice_get}
 use Rattle.std.specs.FinMap as map
 use Rattle.uv_num.specs.declared.kind.Kind.{Kind}
 use Rattle.uv_num.specs.declared.kind.Kind.TheVariants as kind
@@ -15,6 +15,7 @@ use Rattle.uv_world.specs.declared.content.Bound.{Bound}
 use Rattle.uv_world.specs.declared.content.Windowed.{Windowed}
 use Rattle.uv_world.specs.declared.lending.Reach.{Reach}
 use Rattle.uv_world.specs.Celled.{cells_emptied, value_of_cell}
+use Rattle.uv_world.specs.Fitting.{outline}
 use Rattle.uv_world.specs.Moving.{region_id}
 
 -- Where a key leads.
@@ -134,6 +135,18 @@ return_value l key (Some at) (Some r) = record { regions = at_place l.regions at
 abbrev pub return_one : List (Cell Windowed) → Lending → ℕ → Lending
 return_one windows l key = return_value l key (home_of windows key) (map.get l.lent key)
 
+-- those of all keys come back, the last that was lent first
 abbrev pub return_all : List (Cell Windowed) → Lending → List ℕ → Lending
 return_all windows l [] = l
-return_all windows l (key ∷ keys) = return_all windows (return_one windows l key) keys
+return_all windows l (key ∷ keys) = return_one windows (return_all windows l keys) key
+
+-- both maps have the same keys
+abbrev pub SameKeys : Lent → Lent → Type 0
+SameKeys a b = (k : ℕ) → is_some (map.get a k) ≡ is_some (map.get b k)
+
+-- what keys have lent comes back, whatever was done to the regions meanwhile: the same cells hold something under the same
+-- generations
+abbrev pub LentComesBack : Type 0
+LentComesBack =
+    (windows : List (Cell Windowed)) (regions : List (Cell Registered)) (keys : List ℕ) (lent : Lent) → AreDifferent keys → SameKeys lent (lend_all windows (nothing_lent regions) keys).lent
+    → map outline (return_all windows (record { regions = (lend_all windows (nothing_lent regions) keys).regions; lent = lent }) keys).regions ≡ map outline regions

@@ -1,6 +1,7 @@
 //! Laws of what all objects hold over any entries.
 
 ghost use Rattle.uv_world.specs.Fitting.{FirstFits, FittingGoesOn};
+ghost use Rattle.uv_world.specs.Lending.{LentComesBack};
 ghost use Rattle.uv_world.specs.Waiting.{WaitingGoesOn};
 
 use uv_machine::laws;
@@ -29,3 +30,8 @@ pub fn fitting_goes_on()
     laws::legal_goes_on();
     laws::state_goes_on();
 }
+
+/// What keys have lent comes back, whatever was done to the regions meanwhile: the same cells hold something again. It does nothing.
+pub fn lent_comes_back()
+    ensures { LentComesBack }
+{}

@@ -198,7 +198,7 @@ fn return_one(
     }
 }
 
-/// Puts back what was lent by these keys.
+/// Puts back what was lent by these keys, the last first.
 pub(crate) fn give_back(
     regions: &mut List<Cell<Region>>,
     windows: &List<Cell<Windowed>>,
@@ -208,7 +208,7 @@ pub(crate) fn give_back(
     ensures regions { regions.new ≡ (return_all windows.now (record { regions = regions.old; lent = lent.old }) keys.now).regions }
     ensures lent { lent.new ≡ (return_all windows.now (record { regions = regions.old; lent = lent.old }) keys.now).lent }
 {
-    for key in keys {
-        return_one(regions, windows, lent, *key);
+    for turn in 0..keys.len() {
+        return_one(regions, windows, lent, keys[keys.len() - 1 - turn]);
     }
 }
