@@ -29,7 +29,7 @@ use Rattle.uv_world.specs.Owing.{counts_cell, counts_value, full_cells}
 use Rattle.uv_world.specs.Poking.{held_acted, region_acted}
 use Rattle.uv_world.specs.Posting.{held_receive_posted, held_srq_posted, pair_with_receive, receive_tried, shared_tried, shared_with}
 use Rattle.uv_world.specs.Seating.{stage_of}
-use Rattle.uv_world.specs.Sending.{handle_of, held_send_posted, pair_with_send, send_tried, sending_by}
+use Rattle.uv_world.specs.Sending.{handle_given, held_send_posted, pair_with_send, send_tried, sending_by}
 use Rattle.uv_world.specs.Stages.{Stage}
 
 -- One cell.
@@ -224,14 +224,14 @@ receive_posted_is h qp w (Dead word back) = pairs_same h qp
 receive_posted_is h qp w (NoMemory back) = pairs_same h qp
 
 pub same_send_posted : (h : Held) (qp : ℕ × ℕ) (ah : Option (ℕ × ℕ)) (w : Sending) (answer : Tried Sending) → SameCells h (held_send_posted h qp ah w answer)
-same_send_posted h qp ah w Did = record { outlined = pair_outlines h qp (pair_with_send (sending_by (handle_of h ah) w)); pending = refl }
+same_send_posted h qp ah w Did = record { outlined = pair_outlines h qp (pair_with_send (sending_by (handle_given h ah) w)); pending = refl }
 same_send_posted h qp ah w (Inval back by_state) = same_itself h
 same_send_posted h qp ah w (Full back) = same_itself h
 same_send_posted h qp ah w (Again word back) = same_itself h
 same_send_posted h qp ah w (Dead word back) = same_itself h
 same_send_posted h qp ah w (NoMemory back) = same_itself h
 
-pub send_posted_is : (h : Held) (qp : ℕ × ℕ) (ah : Option (ℕ × ℕ)) (w : Sending) (answer : Tried Sending) → (let now : Held = record h { pairs = cells_under h.pairs qp (send_tried (sending_by (handle_of h ah) w) answer) } in now) ≡ held_send_posted h qp ah w answer
+pub send_posted_is : (h : Held) (qp : ℕ × ℕ) (ah : Option (ℕ × ℕ)) (w : Sending) (answer : Tried Sending) → (let now : Held = record h { pairs = cells_under h.pairs qp (send_tried (sending_by (handle_given h ah) w) answer) } in now) ≡ held_send_posted h qp ah w answer
 send_posted_is h qp ah w Did = refl
 send_posted_is h qp ah w (Inval back by_state) = pairs_same h qp
 send_posted_is h qp ah w (Full back) = pairs_same h qp

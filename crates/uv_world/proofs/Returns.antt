@@ -21,7 +21,7 @@ use Rattle.uv_world.specs.declared.content.Windowed.{Windowed}
 use Rattle.uv_world.specs.declared.lending.Reach.{Reach}
 use Rattle.uv_world.specs.Celled.{cell_emptied, cell_value, cells_emptied, value_of_cell}
 use Rattle.uv_world.specs.Fitting.{outline, something}
-use Rattle.uv_world.specs.Lending.{AreDifferent, Lending, SameKeys, bound_home, bound_reach, cell_filled, home_of, home_of_kind, home_of_parts, lend_all, lend_one, lend_reached, lend_value, reach_of, reach_of_kind, reach_of_parts, region_reach, return_all, return_one, return_value, value_by, window_home, window_of, window_reach}
+use Rattle.uv_world.specs.Lending.{AreDifferent, Lending, SameKeys, bound_home, bound_reach, cell_filled, home_of, home_by_kind, home_of_parts, lend_all, lend_one, lend_reached, lend_value, reach_of, reach_of_kind, reach_of_parts, region_reach, return_all, return_one, return_value, value_by, window_home, window_of, window_reach}
 use Rattle.uv_world.specs.Moving.{region_id}
 use Rattle.uv_world.proofs.Lends.{apart_reached, each_by_two}
 use Rattle.uv_world.proofs.Outlines.{changed_outline}
@@ -70,7 +70,7 @@ home_window : (regions : List (Cell Registered)) (variant : ℕ) (o : Option (Ce
 home_window regions variant o None reach is e = absurd cc
 home_window regions variant o (Some w) reach is e = ap window_home (value_by_is variant o w is) ∙ home_bound regions w w.bound reach e
 
-home_kind : (regions : List (Cell Registered)) (windows : List (Cell Windowed)) (at variant : ℕ) (k : Kind) (reach : Reach) → reach_of_kind regions windows at variant k ≡ Some reach → home_of_kind windows at k ≡ Some reach.region
+home_kind : (regions : List (Cell Registered)) (windows : List (Cell Windowed)) (at variant : ℕ) (k : Kind) (reach : Reach) → reach_of_kind regions windows at variant k ≡ Some reach → home_by_kind windows at k ≡ Some reach.region
 home_kind regions windows at variant kind.Pd reach e = absurd cc
 home_kind regions windows at variant kind.Channel reach e = absurd cc
 home_kind regions windows at variant kind.Cq reach e = absurd cc

@@ -105,19 +105,19 @@ abbrev pub window_home : Option Windowed → Option ℕ
 window_home None = None
 window_home (Some w) = bound_home w.bound
 
-abbrev pub home_of_kind : List (Cell Windowed) → ℕ → Kind → Option ℕ
-home_of_kind windows at kind.Pd = None
-home_of_kind windows at kind.Channel = None
-home_of_kind windows at kind.Cq = None
-home_of_kind windows at kind.Qp = None
-home_of_kind windows at kind.Srq = None
-home_of_kind windows at kind.Ah = None
-home_of_kind windows at kind.Mr = Some at
-home_of_kind windows at kind.Mw = window_home (value_of_cell windows at)
+abbrev pub home_by_kind : List (Cell Windowed) → ℕ → Kind → Option ℕ
+home_by_kind windows at kind.Pd = None
+home_by_kind windows at kind.Channel = None
+home_by_kind windows at kind.Cq = None
+home_by_kind windows at kind.Qp = None
+home_by_kind windows at kind.Srq = None
+home_by_kind windows at kind.Ah = None
+home_by_kind windows at kind.Mr = Some at
+home_by_kind windows at kind.Mw = window_home (value_of_cell windows at)
 
 abbrev pub home_of_parts : List (Cell Windowed) → Option (Kind × ℕ × ℕ) → Option ℕ
 home_of_parts windows None = None
-home_of_parts windows (Some parts) = home_of_kind windows parts.1 parts.0
+home_of_parts windows (Some parts) = home_by_kind windows parts.1 parts.0
 
 -- the cell that the region of a key was lent from
 abbrev pub home_of : List (Cell Windowed) → ℕ → Option ℕ

@@ -24,8 +24,8 @@ abbrev pub cells_under : {T : Type 0} → List (Cell T) → ℕ × ℕ → (T �
 cells_under cells name f = at_place cells name.0 (cell_under name.1 f)
 
 -- the history stays, and this is held
-abbrev pub holding : Stage → Held → Stage
-holding s h = record s { held = h }
+abbrev pub stage_holding : Stage → Held → Stage
+stage_holding s h = record s { held = h }
 
 -- contents alone have changed: neither the core nor what lies with the actors
 pub record OnlyContents (old new : World) : Type 0 where

@@ -63,13 +63,13 @@ send_tried w (Dead word back) p = p
 send_tried w (NoMemory back) p = p
 
 -- the handle that was named, if one was and its cell is live
-abbrev pub handle_of : Held → Option (ℕ × ℕ) → Option Addressed
-handle_of h None = None
-handle_of h (Some ah) = value_named h.addresses ah
+abbrev pub handle_given : Held → Option (ℕ × ℕ) → Option Addressed
+handle_given h None = None
+handle_given h (Some ah) = value_named h.addresses ah
 
 -- nothing but a post that was made changes what is held
 abbrev pub held_send_posted : Held → ℕ × ℕ → Option (ℕ × ℕ) → Sending → Tried Sending → Held
-held_send_posted h qp ah w Did = record h { pairs = cells_under h.pairs qp (pair_with_send (sending_by (handle_of h ah) w)) }
+held_send_posted h qp ah w Did = record h { pairs = cells_under h.pairs qp (pair_with_send (sending_by (handle_given h ah) w)) }
 held_send_posted h qp ah w (Inval back by_state) = h
 held_send_posted h qp ah w (Full back) = h
 held_send_posted h qp ah w (Again word back) = h

@@ -5,7 +5,7 @@ ghost use Rattle.uv_queue.specs.Order.{oldest, without_oldest};
 ghost use Rattle.uv_cq.specs.Rings.{after_poll};
 ghost use Rattle.uv_world.specs.Completing.{arm_answer, completion_told, event_answer, event_told, held_armed, held_event_taken, held_polled, poll_answer, ring_armed, ring_polled};
 ghost use Rattle.uv_world.specs.Holdings.{held_of};
-ghost use Rattle.uv_world.specs.Named.{OnlyContents, cells_under, holding, value_named};
+ghost use Rattle.uv_world.specs.Named.{OnlyContents, cells_under, stage_holding, value_named};
 ghost use Rattle.uv_world.specs.Owing.{IsHoused};
 ghost use Rattle.uv_world.specs.Seating.{IsWorld, stage_of};
 
@@ -133,7 +133,7 @@ impl World {
     pub fn poll(&mut self, cq: (u32, u32)) -> PollTried
         requires world { IsWorld self.old }
         ensures answer { result ≡ poll_answer (value_named (held_of self.old.contents).rings cq) }
-        ensures stage { stage_of self.new ≡ holding (stage_of self.old) (held_polled (held_of self.old.contents) cq) }
+        ensures stage { stage_of self.new ≡ stage_holding (stage_of self.old) (held_polled (held_of self.old.contents) cq) }
         ensures only { OnlyContents self.old self.new }
         ensures world { IsWorld self.new }
     {
@@ -145,7 +145,7 @@ impl World {
     pub fn arm(&mut self, cq: (u32, u32), solicited: bool) -> ArmTried
         requires world { IsWorld self.old }
         ensures answer { result ≡ arm_answer (value_named (held_of self.old.contents).rings cq) }
-        ensures stage { stage_of self.new ≡ holding (stage_of self.old) (held_armed (held_of self.old.contents) cq solicited) }
+        ensures stage { stage_of self.new ≡ stage_holding (stage_of self.old) (held_armed (held_of self.old.contents) cq solicited) }
         ensures only { OnlyContents self.old self.new }
         ensures world { IsWorld self.new }
     {
@@ -157,7 +157,7 @@ impl World {
     pub fn event_of(&mut self, channel: (u32, u32)) -> EventTried
         requires world { IsWorld self.old }
         ensures answer { result ≡ event_answer (value_named (held_of self.old.contents).channels channel) }
-        ensures stage { stage_of self.new ≡ holding (stage_of self.old) (held_event_taken (held_of self.old.contents) channel) }
+        ensures stage { stage_of self.new ≡ stage_holding (stage_of self.old) (held_event_taken (held_of self.old.contents) channel) }
         ensures only { OnlyContents self.old self.new }
         ensures world { IsWorld self.new }
     {

@@ -4,7 +4,7 @@ ghost use Rattle.std.specs.Prelude.{◌≡◌, ◌<◌, ◌≤◌, Some, length}
 ghost use Rattle.uv_num.specs.declared.limits.TheConstants.{NONE, WORK_BYTES};
 ghost use Rattle.uv_region.specs.Actions.{PlainAction, plain};
 ghost use Rattle.uv_world.specs.Holdings.{held_of};
-ghost use Rattle.uv_world.specs.Named.{OnlyContents, cells_under, holding, value_named};
+ghost use Rattle.uv_world.specs.Named.{OnlyContents, cells_under, stage_holding, value_named};
 ghost use Rattle.uv_world.specs.Owing.{IsHoused};
 ghost use Rattle.uv_world.specs.Poking.{ActAnswers, held_acted, peek_of, poke_of, region_acted};
 ghost use Rattle.uv_world.specs.Seating.{IsWorld, stage_of};
@@ -158,7 +158,7 @@ impl World {
         requires most { length bytes.now ≤ WORK_BYTES }
         requires world { IsWorld self.old }
         ensures answer { ActAnswers (poke_of offset bytes.now) (value_named (held_of self.old.contents).regions mr) result }
-        ensures stage { stage_of self.new ≡ holding (stage_of self.old) (held_acted (held_of self.old.contents) mr (poke_of offset bytes.now) result) }
+        ensures stage { stage_of self.new ≡ stage_holding (stage_of self.old) (held_acted (held_of self.old.contents) mr (poke_of offset bytes.now) result) }
         ensures only { OnlyContents self.old self.new }
         ensures world { IsWorld self.new }
     {
@@ -172,7 +172,7 @@ impl World {
         requires most { length ≤ WORK_BYTES }
         requires world { IsWorld self.old }
         ensures answer { ActAnswers (peek_of offset length) (value_named (held_of self.old.contents).regions mr) result }
-        ensures stage { stage_of self.new ≡ holding (stage_of self.old) (held_acted (held_of self.old.contents) mr (peek_of offset length) result) }
+        ensures stage { stage_of self.new ≡ stage_holding (stage_of self.old) (held_acted (held_of self.old.contents) mr (peek_of offset length) result) }
         ensures only { OnlyContents self.old self.new }
         ensures world { IsWorld self.new }
     {

@@ -2,7 +2,7 @@
 
 ghost use Rattle.std.specs.Prelude.{◌≡◌, Some};
 ghost use Rattle.uv_world.specs.Holdings.{held_of};
-ghost use Rattle.uv_world.specs.Named.{OnlyContents, cells_under, holding, value_named};
+ghost use Rattle.uv_world.specs.Named.{OnlyContents, cells_under, stage_holding, value_named};
 ghost use Rattle.uv_world.specs.Owing.{IsHoused};
 ghost use Rattle.uv_world.specs.Posting.{ReceiveAnswers, SharedAnswers, held_receive_posted, held_srq_posted, receive_tried, shared_tried, state_alone_refuses};
 ghost use Rattle.uv_world.specs.Seating.{IsWorld, stage_of};
@@ -128,7 +128,7 @@ impl World {
     pub fn post_srq(&mut self, _alloc: Global, srq: (u32, u32), work: RecvWork) -> Tried<RecvWork>
         requires world { IsWorld self.old }
         ensures answer { SharedAnswers work (value_named (held_of self.old.contents).shared srq) result }
-        ensures stage { stage_of self.new ≡ holding (stage_of self.old) (held_srq_posted (held_of self.old.contents) srq work result) }
+        ensures stage { stage_of self.new ≡ stage_holding (stage_of self.old) (held_srq_posted (held_of self.old.contents) srq work result) }
         ensures only { OnlyContents self.old self.new }
         ensures world { IsWorld self.new }
     {
@@ -140,7 +140,7 @@ impl World {
     pub fn post_recv(&mut self, alloc: Global, qp: (u32, u32), work: RecvWork) -> Tried<RecvWork>
         requires world { IsWorld self.old }
         ensures answer { ReceiveAnswers work (value_named (held_of self.old.contents).pairs qp) result }
-        ensures stage { stage_of self.new ≡ holding (stage_of self.old) (held_receive_posted (held_of self.old.contents) qp work result) }
+        ensures stage { stage_of self.new ≡ stage_holding (stage_of self.old) (held_receive_posted (held_of self.old.contents) qp work result) }
         ensures only { OnlyContents self.old self.new }
         ensures world { IsWorld self.new }
     {

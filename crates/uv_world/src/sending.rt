@@ -4,7 +4,7 @@ ghost use Rattle.std.specs.Prelude.{◌≡◌, None, Some};
 ghost use Rattle.uv_qp.specs.Services.{fits_service};
 ghost use Rattle.uv_qp.specs.Pairs.{takes_sends};
 ghost use Rattle.uv_world.specs.Holdings.{held_of};
-ghost use Rattle.uv_world.specs.Named.{OnlyContents, cells_under, holding, value_named};
+ghost use Rattle.uv_world.specs.Named.{OnlyContents, cells_under, stage_holding, value_named};
 ghost use Rattle.uv_world.specs.Owing.{IsHoused};
 ghost use Rattle.uv_world.specs.Seating.{IsWorld, stage_of};
 ghost use Rattle.uv_world.specs.Sending.{HandleAnswers, PairAnswers, SendAnswers, held_send_posted, is_of_domain, send_tried, sending_by, state_alone_refuses_send};
@@ -198,7 +198,7 @@ impl World {
     ) -> Tried<SendWork>
         requires world { IsWorld self.old }
         ensures answer { SendAnswers (held_of self.old.contents) qp ah work result }
-        ensures stage { stage_of self.new ≡ holding (stage_of self.old) (held_send_posted (held_of self.old.contents) qp ah work result) }
+        ensures stage { stage_of self.new ≡ stage_holding (stage_of self.old) (held_send_posted (held_of self.old.contents) qp ah work result) }
         ensures only { OnlyContents self.old self.new }
         ensures world { IsWorld self.new }
     {
