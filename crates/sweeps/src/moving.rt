@@ -1,7 +1,6 @@
 //! The moves of a queue pair, from each state to each other.
 
 use crate::making::{Terms, Which, go, told, unused};
-use crate::pair::Side;
 use crate::words::connection;
 use std::alloc::{AllocError, Global};
 use uv_num::{Errno, QP_ATTRS, QpAttr, QpAttrs, QpState, Service};
