@@ -17,7 +17,7 @@ use Rattle.uv_run.specs.declared.flight.Task.TheVariants as task
 use Rattle.uv_run.specs.declared.flight.Teardown.{Teardown}
 use Rattle.uv_run.specs.declared.flight.Teardown.TheVariants.{Closing, Unplugging}
 use Rattle.uv_run.specs.declared.heard.Event.{Event}
-use Rattle.uv_run.specs.Site.{Begins, Site, Turned, begin_turn, close_turn, closes, ended_turn, event_of, file_ahead, found_of, kept_at, kept_in, kill_turn, killed_of, last_of, removal_turn, removed, state_at, sweep_turn, swept_turn, teardown_of, teardown_turn, tears_turn, torn_by, torn_down, torn_turn, turn_by, unplug_turn, unplugs, with_entry, with_teardown}
+use Rattle.uv_run.specs.Site.{Begins, Site, Turned, begin_turn, close_turn, closes, ended_turn, event_of, file_ahead, found_of, kept_at, kept_of_file, kill_turn, killed_of, last_of, removal_turn, removed, state_at, sweep_turn, swept_turn, teardown_of, teardown_turn, tears_turn, torn_by, torn_down, torn_turn, turn_by, unplug_turn, unplugs, with_entry, with_teardown}
 
 pub record Continued (old new : List Entry) : Type 0 where
   pub more : List Entry
@@ -65,7 +65,7 @@ swept_continues s a f t = continues_if s (calls_on (state_at s) f == 0) (kill_tu
 
 sweep_continues : (s : Site) (a f : ℕ) (t : Teardown) (x : Option Killed) → Continues s (sweep_turn s a f t x)
 sweep_continues s a f t None = swept_continues s a f t
-sweep_continues s a f t (Some x) = continued_one s (entry.Gone x.object (kept_in s f))
+sweep_continues s a f t (Some x) = continued_one s (entry.Gone x.object (kept_of_file s f))
 
 torn_continues : (s : Site) (a f by : ℕ) → Continues s (torn_turn s a f by)
 torn_continues s a f by = continues_if s (by == DRIVER) _ _ (continued_same s.history) (continued_same s.history)

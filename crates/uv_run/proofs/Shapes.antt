@@ -18,7 +18,7 @@ use Rattle.uv_run.specs.declared.flight.Killed.{Killed}
 use Rattle.uv_run.specs.declared.flight.Teardown.{Teardown}
 use Rattle.uv_run.specs.declared.flight.Teardown.TheVariants.{Closing, Unplugging}
 use Rattle.uv_run.specs.declared.heard.Event.{Event}
-use Rattle.uv_run.specs.Site.{Site, Turned, begin_turn, close_turn, ended_turn, ends_with, file_ahead, goes_on, kept_in, kill_turn, killed_of, last_of, no_close, removal_turn, removed, state_at, sweep_turn, swept_turn, tear_turn, teardown_of, teardown_turn, tears_turn, torn_by, unplug_turn, with_entry, with_teardown}
+use Rattle.uv_run.specs.Site.{Site, Turned, begin_turn, close_turn, ended_turn, ends_with, file_ahead, goes_on, kept_of_file, kill_turn, killed_of, last_of, no_close, removal_turn, removed, state_at, sweep_turn, swept_turn, tear_turn, teardown_of, teardown_turn, tears_turn, torn_by, unplug_turn, with_entry, with_teardown}
 use Rattle.uv_run.proofs.Sounds.{slot_none, slot_other}
 
 -- the history has gone on without a call's beginning or end
@@ -96,7 +96,7 @@ swept_shape s a f t = tearing_if s a (calls_on (state_at s) f == 0) _ _ (kill_sh
 sweep_shape : (s : Site) (a f : ℕ) (t : Teardown) (x : Option Killed) → Tearing s a (sweep_turn s a f t x)
 sweep_shape s a f t None = swept_shape s a f t
 sweep_shape s a f t (Some x) =
-    let b = base_entry s (entry.Gone x.object (kept_in s f)) (λ c items. refl) in
+    let b = base_entry s (entry.Gone x.object (kept_of_file s f)) (λ c items. refl) in
     tearing_stays s _ a _ (record { more = b.more; is = b.is; calls = b.calls; teardowns = refl })
 
 tear_shape : (s : Site) (a f : ℕ) → Tearing s a (tear_turn s a f)

@@ -76,8 +76,8 @@ abbrev pub kept_at : Site → ℕ → ℕ
 kept_at s a = stage_kept (stage_at s) a
 
 -- what is kept of the object that the teardown of a file has taken out of use
-abbrev pub kept_torn : Site → ℕ → ℕ
-kept_torn s f = actions_in (held_in_slot s.held (OfTeardown f))
+abbrev pub kept_of_file : Site → ℕ → ℕ
+kept_of_file s f = actions_in (held_in_slot s.held (OfTeardown f))
 
 abbrev pub teardown_of : Site → ℕ → Option Teardown
 teardown_of s a = slot_of (slice_get s.teardowns a)
@@ -192,7 +192,7 @@ swept_turn s a f t =
     else record { site = s; heard = goes_on (event.NotYet f (calls_on (state_at s) f)) }
 
 abbrev pub release_turn : Site → ℕ → ℕ → Killed → Turned
-release_turn s a f x = record { site = with_killed (with_entry s (entry.Gone x.object (kept_torn s f))) a None; heard = goes_on (event.Went x.left) }
+release_turn s a f x = record { site = with_killed (with_entry s (entry.Gone x.object (kept_of_file s f))) a None; heard = goes_on (event.Went x.left) }
 
 -- what was taken out of use is released before the sweep goes on
 abbrev pub sweep_turn : Site → ℕ → ℕ → Teardown → Option Killed → Turned

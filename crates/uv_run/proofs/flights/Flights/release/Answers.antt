@@ -5,7 +5,7 @@ use Rattle.uv_graph.specs.Slots.{put_slot}
 use Rattle.uv_world.specs.Celled.{value_of_slot}
 use Rattle.uv_world.specs.Seating.{stage_of}
 use Rattle.uv_world.specs.Stages.{stage_then}
-use Rattle.uv_run.specs.Site.{kept_in, with_entry, with_killed}
+use Rattle.uv_run.specs.Site.{kept_of_file, with_entry, with_killed}
 use Rattle.uv_run.specs.Sound.{site_of}
 use Rattle.uv_run.proofs.Lowering.{entry_lowers}
 use Rattle.uv_run.proofs.Sites.{site_same, turned_same}
@@ -23,7 +23,7 @@ pub returns-clause-turned : goal.returns-clause-turned
 returns-clause-turned c =
     let old = c.args.self.now in
     let x = c.args.x in
-    let kept = kept_in (site_of old) c.args.file in
+    let kept = kept_of_file (site_of old) c.args.file in
     let same = same_object (value_of_slot old.world.doomed c.args.actor) c.gone-object.result x.object c.gone-object.ensures.object (doomed_is old c.args.actor c.requires.sound ∙ ap object_kept c.requires.killed) in
     turned_same (site_of (record old { world = c.gone-object.new.self; killed = c.change_at.new.items })) (with_killed (with_entry (site_of old) (Gone x.object kept)) c.args.actor _) _ _
     (site_same (stage_of c.gone-object.new.self) (stage_then (stage_of old.world) (Gone x.object kept)) old.teardowns old.teardowns c.change_at.new.items (at_place old.killed c.args.actor (put_slot _))
@@ -33,11 +33,11 @@ returns-clause-turned c =
 pub returns-clause-progress : goal.returns-clause-progress
 returns-clause-progress c =
     let old = c.args.self.now in
-    let e = Gone c.gone-object.result (kept_in (site_of old) c.args.file) in
+    let e = Gone c.gone-object.result (kept_of_file (site_of old) c.args.file) in
     inl (entry_lowers old (record old { world = c.gone-object.new.self; killed = c.change_at.new.items }) e c.gone-object.ensures.world.seated.legal (more_of old.world c.gone-object.new.self e c.gone-object.ensures.stage) refl (omega arith))
 
 pub returns-clause-moved : goal.returns-clause-moved
 returns-clause-moved c =
     let old = c.args.self.now in
     let g = c.gone-object.ensures in
-    release_moved c.args.actor c.gone-object.result (kept_in (site_of old) c.args.file) old c.gone-object.new.self c.change_at.new.items c.args._teardown c.requires.sound c.requires.teardown g.world g.stage g.spares g.others g.none c.change_at.ensures
+    release_moved c.args.actor c.gone-object.result (kept_of_file (site_of old) c.args.file) old c.gone-object.new.self c.change_at.new.items c.args._teardown c.requires.sound c.requires.teardown g.world g.stage g.spares g.others g.none c.change_at.ensures
