@@ -1,3 +1,5 @@
+pub mod Acted
+pub mod Asking
 pub mod Burying
 pub mod Counts
 pub mod FirstFit
@@ -10,6 +12,8 @@ pub mod Newness
 pub mod Nexting
 pub mod Outlines
 pub mod Ranged
+pub mod Readied
+pub mod Refilling
 pub mod Rested
 pub mod Returns
 pub mod Seating

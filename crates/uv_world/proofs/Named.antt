@@ -24,7 +24,7 @@ use Rattle.uv_world.specs.Celled.{cell_changed_by}
 use Rattle.uv_world.specs.Completing.{held_armed, held_event_taken, held_polled, ring_armed, ring_polled}
 use Rattle.uv_world.specs.Fitting.{StageFits, holds_under, outline, outlines, something}
 use Rattle.uv_world.specs.Holdings.{Held, held_of}
-use Rattle.uv_world.specs.Named.{cell_under, cells_under}
+use Rattle.uv_world.specs.Named.{SameCells, cell_under, cells_under}
 use Rattle.uv_world.specs.Owing.{counts_cell, counts_value, full_cells}
 use Rattle.uv_world.specs.Poking.{held_acted, region_acted}
 use Rattle.uv_world.specs.Posting.{held_receive_posted, held_srq_posted, pair_with_receive, receive_tried, shared_tried, shared_with}
@@ -85,10 +85,6 @@ pub under_same : {T : Type 0} (cells : List (Cell T)) (name : ℕ × ℕ) → ce
 under_same {T} cells name = place_same (cell_under name.1 (λ (x : T). x)) (λ cell. same_if (cell.generation == name.1) cell) cells name.0
 
 -- What is held: the same cells hold something, and the same waits to be planted.
-
-pub record SameCells (h h' : Held) : Type 0 where
-  pub outlined : (k : Kind) → outlines h' k ≡ outlines h k
-  pub pending : h'.pending ≡ h.pending
 
 same_itself : (h : Held) → SameCells h h
 same_itself h = record { outlined = λ k. refl; pending = refl }

@@ -48,7 +48,7 @@ value_outline f None = refl
 value_outline f (Some x) = refl
 
 -- a change of what a cell holds leaves its outline
-kept_outline : {T : Type 0} (f : T → T) (cell : Cell T) → outline (cell_changed_by f cell) ≡ outline cell
+pub kept_outline : {T : Type 0} (f : T → T) (cell : Cell T) → outline (cell_changed_by f cell) ≡ outline cell
 kept_outline f cell = ap (λ (v : Option (Unit {0})). (let c : Cell (Unit {0}) = record { generation = cell.generation; value = v } in c)) (value_outline f cell.value)
 
 -- one more cell that holds something, under its generation

@@ -14,7 +14,7 @@ use Rattle.uv_world.specs.declared.cells.Cell.{Cell}
 use Rattle.uv_world.specs.declared.content.Bound.{Bound}
 use Rattle.uv_world.specs.declared.content.Windowed.{Windowed}
 use Rattle.uv_world.specs.declared.lending.Reach.{Reach}
-use Rattle.uv_world.specs.Celled.{cells_emptied, value_of_cell}
+use Rattle.uv_world.specs.Celled.{cell_filled, cells_emptied, value_of_cell}
 use Rattle.uv_world.specs.Fitting.{outline}
 use Rattle.uv_world.specs.Moving.{region_id}
 
@@ -122,9 +122,6 @@ home_of_parts windows (Some parts) = home_by_kind windows parts.1 parts.0
 -- the cell that the region of a key was lent from
 abbrev pub home_of : List (Cell Windowed) → ℕ → Option ℕ
 home_of windows key = home_of_parts windows (key_parts key)
-
-abbrev pub cell_filled : {T : Type 0} → T → Cell T → Cell T
-cell_filled value cell = record cell { value = Some value }
 
 abbrev pub return_value : Lending → ℕ → Option ℕ → Option ReachedRegion → Lending
 return_value l key None o = l

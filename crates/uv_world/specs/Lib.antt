@@ -1,3 +1,5 @@
+pub mod Acting
+pub mod Asking
 pub mod Celled
 pub mod Completing
 pub mod Fitting
@@ -9,8 +11,11 @@ pub mod Named
 pub mod Owing
 pub mod Poking
 pub mod Posting
+pub mod Returning
 pub mod Seating
 pub mod Sending
+pub mod Setting
 pub mod Stages
+pub mod Taking
 pub mod Tearing
 pub mod Waiting

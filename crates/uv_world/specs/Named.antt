@@ -1,9 +1,11 @@
 -- Cells that a client names by their index and their generation, beside the object graph: calls of the data path make no entry.
 use Rattle.std.specs.Prelude.{ℕ, ◌≡◌, ◌==◌, List, Option, None, Some, slice_get, if◌then◌else◌}
+use Rattle.uv_num.specs.declared.kind.Kind.{Kind}
 use Rattle.uv_num.specs.Place.{at_place}
 use Rattle.uv_world.specs.declared.cells.Cell.{Cell}
 use Rattle.uv_world.specs.declared.world.World.{World}
 use Rattle.uv_world.specs.Celled.{cell_changed_by}
+use Rattle.uv_world.specs.Fitting.{outlines}
 use Rattle.uv_world.specs.Holdings.{Held}
 use Rattle.uv_world.specs.Stages.{Stage}
 
@@ -26,6 +28,11 @@ cells_under cells name f = at_place cells name.0 (cell_under name.1 f)
 -- the history stays, and this is held
 abbrev pub stage_holding : Stage → Held → Stage
 stage_holding s h = record s { held = h }
+
+-- the same cells hold something under the same generations, and the same waits to be planted
+pub record SameCells (old new : Held) : Type 0 where
+  pub outlined : (k : Kind) → outlines new k ≡ outlines old k
+  pub pending : new.pending ≡ old.pending
 
 -- contents alone have changed: neither the core nor what lies with the actors
 pub record OnlyContents (old new : World) : Type 0 where

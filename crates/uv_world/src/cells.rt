@@ -1,8 +1,8 @@
 //! Cells and slots.
 
-ghost use Rattle.std.specs.Prelude.{◌≡◌, ◌≤◌, ◌+◌, IfOk, None, Some, length, replicate, sum_by};
+ghost use Rattle.std.specs.Prelude.{◌≡◌, ◌≤◌, ◌+◌, IfOk, None, Some, is_some, length, replicate, sum_by, true};
 ghost use Rattle.uv_num.specs.Each.{Each};
-ghost use Rattle.uv_world.specs.Celled.{empty_cell, value_of_cell, cells_planted, cells_emptied, value_of_slot, slots_set};
+ghost use Rattle.uv_world.specs.Celled.{empty_cell, value_of_cell, value_if, cells_planted, cells_emptied, cells_emptied_if, cells_filled, cells_filled_if, value_of_slot, slots_set};
 ghost use Rattle.uv_world.specs.Owing.{owes_journals, owes_lists, counts_value, full_cells, IsUnused};
 
 use crate::content::Content;
@@ -56,6 +56,50 @@ pub(crate) fn take<T>(cells: &mut List<Cell<T>>, at: u32) -> Option<T>
         cells.item_mut(at).value.take()
     } else {
         None
+    }
+}
+
+/// Takes what is planted in a cell that holds something.
+pub(crate) fn take_live<T>(cells: &mut List<Cell<T>>, at: u32) -> T
+    requires live { is_some (value_of_cell cells.old at) ≡ true }
+    ensures taken { Some result ≡ value_of_cell cells.old at }
+    ensures rest { cells.new ≡ cells_emptied cells.old at }
+{
+    match take(cells, at) {
+        Some(value) => value,
+        None => unreachable!(),
+    }
+}
+
+/// Takes what is planted in a cell that is named, if one is.
+pub(crate) fn take_if<T>(cells: &mut List<Cell<T>>, at: Option<u32>) -> Option<T>
+    ensures taken { result ≡ value_if cells.old at }
+    ensures rest { cells.new ≡ cells_emptied_if cells.old at }
+{
+    match at {
+        None => None,
+        Some(at) => take(cells, at),
+    }
+}
+
+/// Puts something back into its cell, whose generation stays.
+pub(crate) fn fill<T: Drop>(cells: &mut List<Cell<T>>, at: u32, value: T)
+    ensures { cells.new ≡ cells_filled cells.old at value }
+{
+    let at = at as usize;
+    if at < cells.len() {
+        cells.item_mut(at).value = Some(value);
+    }
+}
+
+/// Puts something back into a cell that is named, if there is something.
+pub(crate) fn fill_if<T: Drop>(cells: &mut List<Cell<T>>, at: Option<u32>, value: Option<T>)
+    ensures { cells.new ≡ cells_filled_if cells.old at value }
+{
+    if let Some(at) = at {
+        if let Some(value) = value {
+            fill(cells, at, value);
+        }
     }
 }
 

@@ -2,6 +2,7 @@
 
 ghost use Rattle.uv_world.specs.Fitting.{FirstFits, FittingGoesOn};
 ghost use Rattle.uv_world.specs.Lending.{LentComesBack};
+ghost use Rattle.uv_world.specs.Returning.{TakenComesBack};
 ghost use Rattle.uv_world.specs.Waiting.{WaitingGoesOn};
 
 use uv_machine::laws;
@@ -34,4 +35,9 @@ pub fn fitting_goes_on()
 /// What keys have lent comes back, whatever was done to the regions meanwhile: the same cells hold something again. It does nothing.
 pub fn lent_comes_back()
     ensures { LentComesBack }
+{}
+
+/// What was taken for an action and comes back as it was leaves all as it was held. It does nothing.
+pub fn taken_comes_back()
+    ensures { TakenComesBack }
 {}

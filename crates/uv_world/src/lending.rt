@@ -3,11 +3,10 @@
 ghost use Rattle.std.specs.Prelude.{◌≡◌, ◌<◌, ◌≤◌, length, None, slice_get};
 ghost use Rattle.std.specs.FinMap as map;
 ghost use Rattle.uv_num.specs.declared.limits.TheConstants.{LENT_REGIONS};
-ghost use Rattle.uv_num.specs.Place.{at_place};
 ghost use Rattle.uv_world.specs.Celled.{value_of_cell};
-ghost use Rattle.uv_world.specs.Lending.{AreDifferent, Lending, bound_home, bound_reach, cell_filled, home_of, lend_all, lend_one, nothing_lent, reach_of, region_reach, return_all, return_one, value_by, window_home, window_of, window_reach};
+ghost use Rattle.uv_world.specs.Lending.{AreDifferent, Lending, bound_home, bound_reach, home_of, lend_all, lend_one, nothing_lent, reach_of, region_reach, return_all, return_one, value_by, window_home, window_of, window_reach};
 
-use crate::cells::{Cell, take};
+use crate::cells::{Cell, fill, take};
 use crate::content::{Bound, Windowed};
 use crate::contents::region_id;
 use uv_num::{KEY_VARIANTS, Kind, List};
@@ -169,16 +168,6 @@ fn home_of(windows: &List<Cell<Windowed>>, key: u32) -> Option<u32>
         Some((Kind::Mr, at, _)) => Some(at),
         Some((Kind::Mw, at, _)) => window_home(windows, at),
         Some((Kind::Pd | Kind::Channel | Kind::Cq | Kind::Qp | Kind::Srq | Kind::Ah, _, _)) => None,
-    }
-}
-
-/// Puts a region back into its cell.
-fn fill(regions: &mut List<Cell<Region>>, at: u32, region: Region)
-    ensures { regions.new ≡ at_place regions.old at (cell_filled region) }
-{
-    let at = at as usize;
-    if at < regions.len() {
-        regions.item_mut(at).value = Some(region);
     }
 }
 

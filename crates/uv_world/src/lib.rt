@@ -2,6 +2,7 @@
 //! queue pairs and address handles, each planted, taken out and closed as the entries of the core's history say.
 #![tactic(auto)]
 
+mod acting;
 mod beginning;
 mod cells;
 mod changing;
@@ -18,11 +19,13 @@ mod poking;
 mod posting;
 mod sending;
 mod stepping;
+mod taking;
 mod tearing;
 #[cfg(test)]
 mod tests;
 mod world;
 
+pub use acting::PacketTried;
 pub use cells::Cell;
 pub use content::{Addressed, Belled, Bound, Connected, Content, Shared, Windowed};
 pub use contents::Contents;
