@@ -1,24 +1,38 @@
 //! What a region, a shared receive queue, a completion queue and a channel answer and leave, in cells of their own.
 
-ghost use Rattle.std.specs.Prelude.{◌≡◌, ◌<◌, ◌≤◌, IfOk, length, true};
+ghost use Rattle.std.specs.Prelude.{◌≡◌, ◌<◌, ◌≤◌, IfOk, OnOk, length, true};
 ghost use Rattle.uv_num.specs.Ranges.{is_in_range};
 ghost use Rattle.uv_num.specs.declared.limits.TheConstants.{WORK_BYTES};
 ghost use Rattle.uv_world.specs.Owing.{IsHoused};
 
-use crate::{Contents, World};
+use crate::{Contents, PacketTried, World};
 use std::alloc::{AllocError, Global};
 use std::test::Fail;
+use uv_engine::Work;
+use uv_link::Frame;
 use uv_machine::{Links, Move, Slot, Spot};
-use uv_num::{Kind, List, Request};
+use uv_num::{Bytes, Kind, List, Request};
 use uv_region::ActTried;
 use uv_wr::{ArmTried, EventTried, PollTried, RecvWork, Tried};
 
-/// Contents with what a request's create makes, in cell 3 under generation 2.
-fn with(alloc: Global, request: &Request) -> Result<Contents, AllocError>
-    requires { is_in_range request.now ≡ true }
-    ensures { IfOk result IsHoused }
+const NO_LINKS: Links = Links {
+    send: None,
+    receive: None,
+    shared: None,
+    channel: None,
+};
+
+/// Plants what a request's create makes in cell 3 under generation 2.
+fn plant(
+    contents: &mut Contents,
+    alloc: Global,
+    request: &Request,
+    links: Links,
+) -> Result<(), AllocError>
+    requires range { is_in_range request.now ≡ true }
+    requires housed { IsHoused contents.old }
+    ensures { OnOk result (IsHoused contents.new) }
 {
-    let mut contents = Contents::new(alloc)?;
     let made = contents.prepare(alloc, request)?;
     contents.bring(1, made);
     contents.carry(Move::Plants {
@@ -29,14 +43,19 @@ fn with(alloc: Global, request: &Request) -> Result<Contents, AllocError>
             object: 7,
             domain: 5,
             device: 0,
-            links: Links {
-                send: None,
-                receive: None,
-                shared: None,
-                channel: None,
-            },
+            links,
         },
     });
+    Ok(())
+}
+
+/// Contents with what a request's create makes.
+fn with(alloc: Global, request: &Request) -> Result<Contents, AllocError>
+    requires { is_in_range request.now ≡ true }
+    ensures { IfOk result IsHoused }
+{
+    let mut contents = Contents::new(alloc)?;
+    plant(&mut contents, alloc, request, NO_LINKS)?;
     Ok(contents)
 }
 
@@ -129,6 +148,69 @@ fn an_empty_queue_is_armed_and_an_empty_channel_has_no_event(rt: HostRuntime) ->
     let mut contents = with(rt.alloc(), &Request::CreateChannel)?;
     assert_eq!(rt; contents.event_of((3, 2)), EventTried::Empty);
     assert_eq!(rt; contents.event_of((64, 2)), EventTried::Dead(0));
+    Ok(())
+}
+
+/// Contents with a completion queue, and a queue pair of device 0 that is linked with it.
+fn with_pair(alloc: Global) -> Result<Contents, AllocError>
+    ensures { IfOk result IsHoused }
+{
+    let queue = Request::CreateCq {
+        depth: 4,
+        channel: None,
+    };
+    let pair = Request::CreateQp {
+        pd: 0,
+        send_cq: 0,
+        recv_cq: 0,
+        srq: None,
+        service: 2,
+        send_depth: 4,
+        recv_depth: 4,
+    };
+    let mut contents = with(alloc, &queue)?;
+    let links = Links {
+        send: Some(3),
+        receive: Some(3),
+        ..NO_LINKS
+    };
+    plant(&mut contents, alloc, &pair, links)?;
+    Ok(contents)
+}
+
+/// A frame without bytes, or with the header of an only send to queue pair 19, that goes to a device.
+fn frame(alloc: Global, to: u32, count: usize) -> Result<Frame, AllocError>
+    requires { count ≤ 12 }
+{
+    let header = [4, 0, 255, 255, 0, 0, 0, 19, 128, 0, 0, 0];
+    let bytes = Bytes::from_vec(Vec::from_slice(alloc, &header[..count])?);
+    Ok(Frame { from: 1, to, bytes })
+}
+
+fn word(tried: &PacketTried) -> &str {
+    match tried {
+        PacketTried::Did { word, .. } => word.name(),
+        PacketTried::Idle => "idle",
+        PacketTried::Bad(fault) => fault.name(),
+        PacketTried::Dead => "dead",
+        PacketTried::NoMemory(_) => "no memory",
+    }
+}
+
+#[test]
+fn a_queue_pair_acts_in_its_cell(rt: HostRuntime) -> Result<(), Fail> {
+    let alloc = rt.alloc();
+    let mut contents = with_pair(alloc)?;
+    assert_eq!(rt; word(&contents.packet(alloc, Work::Send(3))), "idle");
+    assert_eq!(rt; word(&contents.packet(alloc, Work::Tick(3))), "idle");
+    assert_eq!(rt; word(&contents.packet(alloc, Work::Tick(4))), "dead");
+    let short = Work::Deliver(frame(alloc, 0, 8)?);
+    assert_eq!(rt; word(&contents.packet(alloc, short)), "Short");
+    let elsewhere = Work::Deliver(frame(alloc, 1, 12)?);
+    assert_eq!(rt; word(&contents.packet(alloc, elsewhere)), "dead");
+    let here = Work::Deliver(frame(alloc, 0, 12)?);
+    assert_eq!(rt; word(&contents.packet(alloc, here)), "dropped");
+    assert_eq!(rt; contents.poll((3, 2)), PollTried::Empty(false));
     Ok(())
 }
 
