@@ -89,6 +89,14 @@ impl Handles {
         self.put(handle, Slot::Free);
     }
 
+    /// Takes all numbers away, which are free then: the file is closed (`rdma_core.c`, `uverbs_destroy_ufile_hw`).
+    #[tactic(auto, unfolding(crate::specs::Table::empty_table))]
+    pub fn clear(&mut self)
+        ensures { self.new ≡ empty_table }
+    {
+        self.slots.as_mut_slice().fill(Slot::Free);
+    }
+
     fn at(&self, number: u32) -> Slot
         ensures { result ≡ slot_in self.now number }
     {
@@ -108,7 +116,8 @@ impl Handles {
         *self.slots.item_mut(number as usize) = slot;
     }
 
-    fn least_free(&self) -> Option<u32>
+    /// The least number that isn't taken, which a create would get now. None exactly where all `HANDLES` are taken.
+    pub fn least_free(&self) -> Option<u32>
         ensures number { result ≡ least_free_in self.now }
         ensures within { IfSome result (λ n. n < length self.now) }
         ensures size { length self.now ≡ HANDLES }
@@ -184,6 +193,18 @@ mod tests {
         assert_eq!(rt; destroyed(&mut table, 1), Some(70));
         assert_eq!(rt; table.look(1), None);
         assert_eq!(rt; destroyed(&mut table, 1), None);
+        Ok(())
+    }
+
+    #[test]
+    fn a_file_that_is_closed_has_no_handles(rt: HostRuntime) -> Result<(), Fail> {
+        let mut table = Handles::new(rt.alloc())?;
+        assert_eq!(rt; made(&mut table, 70), Some(0));
+        assert_eq!(rt; table.reserve(), Some(1));
+        assert_eq!(rt; table.least_free(), Some(2));
+        table.clear();
+        assert_eq!(rt; table.look(0), None);
+        assert_eq!(rt; table.least_free(), Some(0));
         Ok(())
     }
 
