@@ -1,0 +1,6 @@
+pub mod Counts
+pub mod Going
+pub mod Marks
+pub mod Stored
+pub mod Tables
+pub mod Turning
