@@ -3,7 +3,7 @@
 //!
 //! Contracts see a `Store` as the machine's `State`: its readers are those of the trait `Readers`, and an entry makes of
 //! it what the machine's definitions say (`after`). Nothing that is read or written takes time that grows with the number
-//! of objects, save the choice of a teardown and the end of a file.
+//! of objects, save the choice of a teardown, the end of a file, and a finish, which moves all objects after its own.
 #![tactic(auto)]
 
 mod counts;
