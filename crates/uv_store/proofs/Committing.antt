@@ -36,7 +36,7 @@ use Rattle.uv_handles.proofs.Changes.{taken_within}
 use Rattle.uv_store.specs.declared.mark.Mark.{Mark}
 use Rattle.uv_store.specs.declared.mark.MarkChange.TheVariants.{Unlocks}
 use Rattle.uv_store.specs.Going.{Goes, entry_by}
-use Rattle.uv_store.specs.Marks.{looks_by, reads_on, word_for, word_on, word_unlocked, uses_by, users_on, mark_on, marks_by, mark_changed, mark_at}
+use Rattle.uv_store.specs.Marks.{looks_by, reads_on, word_for, word_on, word_unlocked, uses_by, users_on, mark_on, marks_by, mark_changed, marks_at_one}
 use Rattle.uv_store.specs.Stored.{IsLegalState, IsStored}
 use Rattle.uv_store.specs.Tables.{table_at, slot_for, slot_on, AreTables}
 use Rattle.uv_store.proofs.Beside.{any_sum, lt_true}
@@ -164,16 +164,16 @@ module _ (m : State) (l : IsLegalState m) (c : ℕ) (d : CallStep) (goes : Goes 
   users_same : (i : ℕ) → users_on later.objects i ≡ users_on m.objects i
   users_same i = sum_map (uses_by i) (on_object o ToLive) m.objects (on_every o ToLive (uses_by i) (λ y. refl))
 
-  mark_turned : (i : ℕ) → mark_at Unlocks o (mark_on m) i ≡ mark_on later i
+  mark_turned : (i : ℕ) → marks_at_one Unlocks o (mark_on m) i ≡ mark_on later i
   mark_turned =
       changed_elim (λ i k. k ≡ mark_on later i) (mark_on m) o (mark_changed Unlocks (mark_on m o))
       (mark_alike (mark_changed Unlocks (mark_on m o)) (mark_on later o) (ap word_unlocked locked_before ∙ sym free_now) (sym (users_same o)))
       (λ i apart. mark_alike (mark_on m i) (mark_on later i) (sym (others_stay i apart)) (sym (users_same i)))
 
-  marked : (marks marks' : List Mark) → marks' ≡ marks_by (mark_at Unlocks o (mark_on m)) m.objects → marks' ≡ marks_by (mark_on later) later.objects
+  marked : (marks marks' : List Mark) → marks' ≡ marks_by (marks_at_one Unlocks o (mark_on m)) m.objects → marks' ≡ marks_by (mark_on later) later.objects
   marked marks marks' is =
       is
-      ∙ (marks_alike (mark_at Unlocks o (mark_on m)) (mark_on later) m.objects mark_turned
+      ∙ (marks_alike (marks_at_one Unlocks o (mark_on m)) (mark_on later) m.objects mark_turned
       ∙ sym (marks_map (mark_on later) (on_object o ToLive) m.objects (on_every o ToLive (λ y. y.id) (λ y. refl))))
 
   -- The table of its file.
@@ -211,7 +211,7 @@ module _ (m : State) (l : IsLegalState m) (c : ℕ) (d : CallStep) (goes : Goes 
   pub set_aside : (tables : List (List Slot)) → AreTables tables m → is_reserved_in (table_at tables stands.item.file) stands.item.handle ≡ true
   set_aside tables are = ap is_reserved (are x.file x.handle ∙ was_set)
 
-  pub stored_commit : (marks marks' : List Mark) (tables tables' : List (List Slot)) (doomed standing : List ℕ) → IsStored m marks tables doomed standing → marks' ≡ marks_by (mark_at Unlocks d.object (mark_on m)) m.objects → tables' ≡ at_place tables stands.item.file (published_at stands.item.handle stands.item.id) → IsStored (commit m c d.object) marks' tables' doomed standing
+  pub stored_commit : (marks marks' : List Mark) (tables tables' : List (List Slot)) (doomed standing : List ℕ) → IsStored m marks tables doomed standing → marks' ≡ marks_by (marks_at_one Unlocks d.object (mark_on m)) m.objects → tables' ≡ at_place tables stands.item.file (published_at stands.item.handle stands.item.id) → IsStored (commit m c d.object) marks' tables' doomed standing
   stored_commit marks marks' tables tables' doomed standing s is gives =
       let file = ((bounded m l).handles x stands.within).0 in
       let low = taken_within (table_at tables x.file) x.handle (ap (λ v. not (is_free v)) (s.tabled x.file x.handle ∙ was_set)) in

@@ -27,7 +27,7 @@ use Rattle.uv_store.specs.declared.counts.CountChange.TheVariants.{OneMore}
 use Rattle.uv_store.specs.declared.mark.Mark.{Mark}
 use Rattle.uv_store.specs.Counts.{count_at, recounted}
 use Rattle.uv_store.specs.Marks.{uses_by, users_on, mark_on, marks_by}
-use Rattle.uv_store.specs.Stored.{IsLegalState, IsStored, IsPlaced}
+use Rattle.uv_store.specs.Stored.{IsLegalState, IsStored, StandsAtPlace}
 use Rattle.uv_store.specs.Tables.{slot_for, AreTables}
 use Rattle.uv_store.proofs.Legal.{reached, bounded, rises}
 use Rattle.uv_store.proofs.Placing.{turned_object}
@@ -78,7 +78,7 @@ module _ (m : State) (l : IsLegalState m) (o : ℕ) (x : Object) (is : object_wi
   place : (i : ℕ) × (slice_get m.objects i ≡ Some x)
   place = place_in x m.objects (Passes-find (has_id o) x m.objects is).within
 
-  stands : IsPlaced m.objects o place.0
+  stands : StandsAtPlace m.objects o place.0
   stands = record { item = x; at = place.1; id = eqb-true x.id o (Passes-find (has_id o) x m.objects is).test }
 
   marked_doomed : (marks : List Mark) → marks ≡ marks_by (mark_on m) m.objects → marks ≡ marks_by (mark_on later) later.objects

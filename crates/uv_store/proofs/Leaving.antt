@@ -27,7 +27,7 @@ use Rattle.uv_handles.specs.declared.slot.Slot.{Slot}
 use Rattle.uv_store.specs.declared.mark.Mark.{Mark}
 use Rattle.uv_store.specs.declared.mark.MarkChange.TheVariants.{Unlocks}
 use Rattle.uv_store.specs.Going.{IsStill, entry_by, own_in}
-use Rattle.uv_store.specs.Marks.{looks_by, reads_on, word_for, word_on, word_unlocked, users_on, mark_on, marks_by, mark_at}
+use Rattle.uv_store.specs.Marks.{looks_by, reads_on, word_for, word_on, word_unlocked, users_on, mark_on, marks_by, marks_at_one}
 use Rattle.uv_store.specs.Stored.{IsLegalState, IsStored}
 use Rattle.uv_store.proofs.Beside.{any_sum, lt_true}
 use Rattle.uv_store.proofs.Legal.{goes_on, reached}
@@ -133,10 +133,10 @@ module _ (m : State) (l : IsLegalState m) (c : ℕ) (d : CallStep) (allowed : Al
           others = others_stay;
         }
 
-    stored_let : (marks marks' : List Mark) (tables : List (List Slot)) (doomed standing : List ℕ) → IsStored m marks tables doomed standing → marks' ≡ marks_by (mark_at Unlocks o (mark_on m)) m.objects → IsStored (after m (entry_by c d)) marks' tables doomed standing
+    stored_let : (marks marks' : List Mark) (tables : List (List Slot)) (doomed standing : List ℕ) → IsStored m marks tables doomed standing → marks' ≡ marks_by (marks_at_one Unlocks o (mark_on m)) m.objects → IsStored (after m (entry_by c d)) marks' tables doomed standing
     stored_let marks marks' tables doomed standing s is =
         stored_turned m (after m (entry_by c d)) o Unlocks turned marks marks' tables doomed standing s is (goes_on m (entry_by c d) l allowed)
 
-  pub stored_let_go : (marks marks' : List Mark) (tables : List (List Slot)) (doomed standing : List ℕ) → IsStored m marks tables doomed standing → (o : ℕ) → own_in (call_of m c) ≡ Some o → marks' ≡ marks_by (mark_at Unlocks o (mark_on m)) m.objects → IsStored (after m (entry_by c d)) marks' tables doomed standing
+  pub stored_let_go : (marks marks' : List Mark) (tables : List (List Slot)) (doomed standing : List ℕ) → IsStored m marks tables doomed standing → (o : ℕ) → own_in (call_of m c) ≡ Some o → marks' ≡ marks_by (marks_at_one Unlocks o (mark_on m)) m.objects → IsStored (after m (entry_by c d)) marks' tables doomed standing
   stored_let_go marks marks' tables doomed standing s o own gives =
       stored_let o (ap own_in (sym turn.is) ∙ own) marks marks' tables doomed standing s gives

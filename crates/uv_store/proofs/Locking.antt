@@ -35,7 +35,7 @@ use Rattle.uv_handles.specs.declared.slot.Slot.{Slot}
 use Rattle.uv_store.specs.declared.mark.Mark.{Mark}
 use Rattle.uv_store.specs.declared.mark.MarkChange.TheVariants.{Locks}
 use Rattle.uv_store.specs.Going.{Goes, entry_by}
-use Rattle.uv_store.specs.Marks.{looks_by, reads_on, word_for, word_on, word_locked, is_beside, users_on, mark_on, marks_by, mark_at}
+use Rattle.uv_store.specs.Marks.{looks_by, reads_on, word_for, word_on, word_locked, is_beside, users_on, mark_on, marks_by, marks_at_one}
 use Rattle.uv_store.specs.Stored.{IsLegalState, IsStored}
 use Rattle.uv_store.proofs.Beside.{lt_true}
 use Rattle.uv_store.proofs.Legal.{goes_on, reached}
@@ -131,6 +131,6 @@ module _ (m : State) (l : IsLegalState m) (c : ℕ) (d : CallStep) (goes : Goes 
         others = λ i apart. ap (λ b. word_for b (reads_on (at_place m.calls c g) i)) (locks_same i apart) ∙ ap (λ n. word_for (list_any (locks i) m.calls) n) (reads_same i);
       }
 
-  pub stored_lock : (marks marks' : List Mark) (tables : List (List Slot)) (doomed standing : List ℕ) → IsStored m marks tables doomed standing → marks' ≡ marks_by (mark_at Locks d.object (mark_on m)) m.objects → IsStored (after m (entry_by c d)) marks' tables doomed standing
+  pub stored_lock : (marks marks' : List Mark) (tables : List (List Slot)) (doomed standing : List ℕ) → IsStored m marks tables doomed standing → marks' ≡ marks_by (marks_at_one Locks d.object (mark_on m)) m.objects → IsStored (after m (entry_by c d)) marks' tables doomed standing
   stored_lock marks marks' tables doomed standing s is =
       stored_turned m (after m (entry_by c d)) d.object Locks locked marks marks' tables doomed standing s is (goes_on m (entry_by c d) l goes.allowed)

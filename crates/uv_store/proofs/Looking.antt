@@ -23,7 +23,7 @@ use Rattle.uv_handles.specs.declared.slot.Slot.{Slot}
 use Rattle.uv_store.specs.declared.mark.Mark.{Mark}
 use Rattle.uv_store.specs.declared.mark.MarkChange.TheVariants.{Reads}
 use Rattle.uv_store.specs.Going.{Goes, entry_by}
-use Rattle.uv_store.specs.Marks.{users_on, mark_on, marks_by, mark_at}
+use Rattle.uv_store.specs.Marks.{users_on, mark_on, marks_by, marks_at_one}
 use Rattle.uv_store.specs.Stored.{IsLegalState, IsStored}
 use Rattle.uv_store.proofs.Legal.{goes_on, reached}
 use Rattle.uv_store.proofs.Still.{any_alike}
@@ -70,6 +70,6 @@ module _ (m : State) (l : IsLegalState m) (c : ℕ) (d : CallStep) (goes : Goes 
         others = look_other m.calls c looker at d.object low;
       }
 
-  pub stored_look : (marks marks' : List Mark) (tables : List (List Slot)) (doomed standing : List ℕ) → IsStored m marks tables doomed standing → marks' ≡ marks_by (mark_at Reads d.object (mark_on m)) m.objects → IsStored (after m (entry_by c d)) marks' tables doomed standing
+  pub stored_look : (marks marks' : List Mark) (tables : List (List Slot)) (doomed standing : List ℕ) → IsStored m marks tables doomed standing → marks' ≡ marks_by (marks_at_one Reads d.object (mark_on m)) m.objects → IsStored (after m (entry_by c d)) marks' tables doomed standing
   stored_look marks marks' tables doomed standing s is =
       stored_turned m (after m (entry_by c d)) d.object Reads looked marks marks' tables doomed standing s is (goes_on m (entry_by c d) l goes.allowed)

@@ -18,7 +18,7 @@ use Rattle.uv_machine.specs.Reached.{IsIn, IsRising}
 use Rattle.uv_machine.proofs.Graph.{find_rising, within_rising}
 use Rattle.uv_store.specs.declared.mark.Mark.{Mark}
 use Rattle.uv_store.specs.Marks.{marks_by}
-use Rattle.uv_store.specs.Stored.{Rises, IsPlaced}
+use Rattle.uv_store.specs.Stored.{Rises, StandsAtPlace}
 
 -- Ids rise.
 
@@ -52,7 +52,7 @@ module _ (objects : List Object) (o : ℕ) (rises : Rises objects) where
       grind (arith, nat_tests)
 
   -- a search by id that found a place
-  pub placed : (at : ℕ) → at < length objects → IsBinarySearchResult (λ (x : Object). nat_cmp x.id o) objects (Ok at) → IsPlaced objects o at
+  pub placed : (at : ℕ) → at < length objects → IsBinarySearchResult (λ (x : Object). nat_cmp x.id o) objects (Ok at) → StandsAtPlace objects o at
   placed at within found =
       ⊎_elim (λ (c : (x : Object) × (at < length objects) × (slice_get objects at ≡ Some x) × (get_or objects at x ≡ x)).
       record { item = c.0; at = c.2; id = ap (λ (v : Object). v.id) (sym c.3) ∙ ranked _ o _ (sym (found c.0)) })
@@ -69,7 +69,7 @@ module _ (objects : List Object) (o : ℕ) (rises : Rises objects) where
       (cases_lt k at))
 
   -- the object at the place is the one with the id
-  pub placed_found : (at : ℕ) (p : IsPlaced objects o at) → find (has_id o) objects ≡ Some p.item
+  pub placed_found : (at : ℕ) (p : StandsAtPlace objects o at) → find (has_id o) objects ≡ Some p.item
   placed_found at p = rw (← p.id) (find_rising 0 rises.top p.item objects (in_by_place objects at p.item p.at) rises.rising)
 
 -- Changes at the place.
@@ -104,7 +104,7 @@ map_id [] = refl
 map_id (x ∷ xs) = ap (λ v. x ∷ v) (map_id xs)
 
 -- the object with an id changed
-pub turned_object : (objects : List Object) (o at : ℕ) (change : Change) → Rises objects → IsPlaced objects o at → at_place objects at (with_change change) ≡ map (on_object o change) objects
+pub turned_object : (objects : List Object) (o at : ℕ) (change : Change) → Rises objects → StandsAtPlace objects o at → at_place objects at (with_change change) ≡ map (on_object o change) objects
 turned_object objects o at change rises p =
     ap (λ v. at_place v at (with_change change)) (sym (map_id objects))
     ∙ changed_placed (with_change change) (with_change change) (λ x. x) o 0 rises.top objects (λ x e. refl) rises.rising at p.item p.at p.id
@@ -113,7 +113,7 @@ pub no_object : (objects : List Object) (o : ℕ) (change : Change) → find (ha
 no_object objects o change e = none_changed (with_change change) (λ x. x) o objects e ∙ map_id objects
 
 -- the mark of the object with an id changed
-pub turned_mark : (objects : List Object) (g : ℕ → Mark) (c : Mark → Mark) (o at : ℕ) → Rises objects → IsPlaced objects o at → at_place (marks_by g objects) at c ≡ marks_by (changed g o (c (g o))) objects
+pub turned_mark : (objects : List Object) (g : ℕ → Mark) (c : Mark → Mark) (o at : ℕ) → Rises objects → StandsAtPlace objects o at → at_place (marks_by g objects) at c ≡ marks_by (changed g o (c (g o))) objects
 turned_mark objects g c o at rises p =
     changed_placed c (λ x. c (g o)) (λ x. g x.id) o 0 rises.top objects (λ x e. ap (λ v. c (g v)) (sym e)) rises.rising at p.item p.at p.id
 
@@ -149,10 +149,10 @@ none_filtered o (x ∷ xs) e =
     let by : (b : Bool) → cond b (Some x) (find (has_id o) xs) ≡ None → cond (not b) (x ∷ filter (not_with_id o) xs) (filter (not_with_id o) xs) ≡ x ∷ xs = λ b. elim b as (λ c. cond c (Some x) (find (has_id o) xs) ≡ None → cond (not c) (x ∷ filter (not_with_id o) xs) (filter (not_with_id o) xs) ≡ x ∷ xs) [ true ↦ λ h. cc | false ↦ λ h. ap (λ v. x ∷ v) (none_filtered o xs h) ] in
     by (has_id o x) e
 
-pub taken_object : (objects : List Object) (o at : ℕ) → Rises objects → IsPlaced objects o at → remove objects at ≡ filter (not_with_id o) objects
+pub taken_object : (objects : List Object) (o at : ℕ) → Rises objects → StandsAtPlace objects o at → remove objects at ≡ filter (not_with_id o) objects
 taken_object objects o at rises p = removed_placed o 0 rises.top objects rises.rising at p.item p.at p.id
 
-pub taken_mark : (objects : List Object) (g : ℕ → Mark) (o at : ℕ) → Rises objects → IsPlaced objects o at → remove (marks_by g objects) at ≡ marks_by g (filter (not_with_id o) objects)
+pub taken_mark : (objects : List Object) (g : ℕ → Mark) (o at : ℕ) → Rises objects → StandsAtPlace objects o at → remove (marks_by g objects) at ≡ marks_by g (filter (not_with_id o) objects)
 taken_mark objects g o at rises p = sym (map_removed (λ x. g x.id) objects at) ∙ ap (λ v. marks_by g v) (taken_object objects o at rises p)
 
 pub none_taken : (objects : List Object) (o : ℕ) → find (has_id o) objects ≡ None → filter (not_with_id o) objects ≡ objects

@@ -25,7 +25,7 @@ use Rattle.uv_handles.proofs.Leasts.{least_free_search}
 use Rattle.uv_store.specs.declared.mark.Mark.{Mark}
 use Rattle.uv_store.specs.Marks.{looks_by, reads_on, word_for, word_on, is_beside, uses_by, users_on, mark_on, stood_mark, beside_in, is_alone_word, alone_in, used_in}
 use Rattle.uv_store.specs.Stored.{IsLegalState}
-use Rattle.uv_store.specs.Tables.{table_in, table_at, least_at, IsSized, slot_for, AreTables}
+use Rattle.uv_store.specs.Tables.{table_in, table_at, least_at, HasAllNumbers, slot_for, AreTables}
 use Rattle.uv_store.proofs.Beside.{any_count, any_sum, none_beside, some_beside, sum_beside}
 use Rattle.uv_store.proofs.Legal.{reached, own_stands, looks_stand, uses_stand, bounded}
 
@@ -203,7 +203,7 @@ no_handle m l f n past =
         let same = eqb-true call.file f parts.0 in
         omega (arith, low))
 
-pub least_reads : (tables : List (List Slot)) (m : State) (l : IsLegalState m) (f : ℕ) (t : Option (List Slot)) → slice_get tables f ≡ t → length tables ≡ FILES → AreTables tables m → IsSized t → least_at t ≡ least_free m f
+pub least_reads : (tables : List (List Slot)) (m : State) (l : IsLegalState m) (f : ℕ) (t : Option (List Slot)) → slice_get tables f ≡ t → length tables ≡ FILES → AreTables tables m → HasAllNumbers t → least_at t ≡ least_free m f
 least_reads tables m l f None is files are size =
     let past : FILES ≤ f = ⊎_elim
     (λ c. absurd (none-some _ (sym is ∙ c.2)))

@@ -35,7 +35,7 @@ use Rattle.uv_store.specs.declared.mark.Mark.{Mark}
 use Rattle.uv_store.specs.Going.{Goes, entry_by}
 use Rattle.uv_store.specs.Marks.{looks_by, reads_on, word_for, word_on, mark_on}
 use Rattle.uv_store.specs.Stored.{IsLegalState, IsStored}
-use Rattle.uv_store.specs.Tables.{table_in, table_at, slot_for, slot_on, IsSized, AreTables}
+use Rattle.uv_store.specs.Tables.{table_in, table_at, slot_for, slot_on, HasAllNumbers, AreTables}
 use Rattle.uv_store.proofs.Aborting.{not_found, and_no}
 use Rattle.uv_store.proofs.Legal.{goes_on, reached, bounded}
 use Rattle.uv_store.proofs.Reading.{least_tells}
@@ -142,7 +142,7 @@ module _ (m : State) (l : IsLegalState m) (c : ℕ) (d : CallStep) (goes : Goes 
       ∙ ap (λ r. word_for (list_any (locks i) m.calls) r) (sum_alike (looks_by i) g m.calls c (λ x e. elim x as (λ v. looks_by i (g v) ≡ looks_by i v) [ None ↦ refl | Some k ↦ refl ])))
 
   -- what the table of the file gives and becomes
-  module _ (tables : List (List Slot)) (files : length tables ≡ FILES) (are : AreTables tables m) (size : IsSized (slice_get tables f)) where
+  module _ (tables : List (List Slot)) (files : length tables ≡ FILES) (are : AreTables tables m) (size : HasAllNumbers (slice_get tables f)) where
     file : f < FILES
     file = ((bounded later legal).numbers c n (with_number (Some n) setter) (ap (λ v. (elim v as (λ _. Option InFlight) [ None ↦ None | Some slot ↦ slot ])) there) refl).0
 
@@ -153,7 +153,7 @@ module _ (m : State) (l : IsLegalState m) (c : ℕ) (d : CallStep) (goes : Goes 
     is_table = slice_get-get_or tables f [] (omega (arith, file, files))
 
     sized : length table ≡ HANDLES
-    sized = let P : Option (List Slot) → Type 0 = λ v. IsSized v in subst P is_table size
+    sized = let P : Option (List Slot) → Type 0 = λ v. HasAllNumbers v in subst P is_table size
 
     least : least_free_in table ≡ Some n
     least = least_tells tables m f table is_table are sized ∙ number.1
@@ -174,7 +174,7 @@ module _ (m : State) (l : IsLegalState m) (c : ℕ) (d : CallStep) (goes : Goes 
         let P : List (List Slot) → Type 0 = λ v. AreTables v later in
         subst P (sym (gives ∙ set_there)) (tables_set tables m later f n Reserved (omega (arith, file, files)) low are (sym is_set) others)
 
-  pub stored_reserve : (marks : List Mark) (tables tables' : List (List Slot)) (doomed standing : List ℕ) → IsStored m marks tables doomed standing → IsSized (slice_get tables f) → tables' ≡ at_place tables f (λ t. reserved_if (least_free_in t) t) → IsStored (after m (entry_by c d)) marks tables' doomed standing
+  pub stored_reserve : (marks : List Mark) (tables tables' : List (List Slot)) (doomed standing : List ℕ) → IsStored m marks tables doomed standing → HasAllNumbers (slice_get tables f) → tables' ≡ at_place tables f (λ t. reserved_if (least_free_in t) t) → IsStored (after m (entry_by c d)) marks tables' doomed standing
   stored_reserve marks tables tables' doomed standing s size gives =
       let P : State → Type 0 = λ v. IsStored v marks tables' doomed standing in
       subst P (sym new) (record {
@@ -187,9 +187,9 @@ module _ (m : State) (l : IsLegalState m) (c : ℕ) (d : CallStep) (goes : Goes 
       })
 
   -- the same of the call by its name, with the number that its table gives
-  pub stored_set : (call : InFlight) → call_of m c ≡ Some call → (given : Option ℕ) (marks : List Mark) (tables tables' : List (List Slot)) (doomed standing : List ℕ) → IsStored m marks tables doomed standing → IsSized (slice_get tables call.file) → given ≡ least_free_in (table_at tables call.file) → tables' ≡ at_place tables call.file (λ t. reserved_if (least_free_in t) t) → (after m (entry_by c d) ≡ with_call m c (with_number given)) × IsStored (with_call m c (with_number given)) marks tables' doomed standing
+  pub stored_set : (call : InFlight) → call_of m c ≡ Some call → (given : Option ℕ) (marks : List Mark) (tables tables' : List (List Slot)) (doomed standing : List ℕ) → IsStored m marks tables doomed standing → HasAllNumbers (slice_get tables call.file) → given ≡ least_free_in (table_at tables call.file) → tables' ≡ at_place tables call.file (λ t. reserved_if (least_free_in t) t) → (after m (entry_by c d) ≡ with_call m c (with_number given)) × IsStored (with_call m c (with_number given)) marks tables' doomed standing
   stored_set call is given marks tables tables' doomed standing s =
-      let P : ℕ → Type 0 = λ k. IsSized (slice_get tables k) → given ≡ least_free_in (table_at tables k) → tables' ≡ at_place tables k (λ t. reserved_if (least_free_in t) t) → (after m (entry_by c d) ≡ with_call m c (with_number given)) × IsStored (with_call m c (with_number given)) marks tables' doomed standing in
+      let P : ℕ → Type 0 = λ k. HasAllNumbers (slice_get tables k) → given ≡ least_free_in (table_at tables k) → tables' ≡ at_place tables k (λ t. reserved_if (least_free_in t) t) → (after m (entry_by c d) ≡ with_call m c (with_number given)) × IsStored (with_call m c (with_number given)) marks tables' doomed standing in
       let Q : State → Type 0 = λ v. IsStored v marks tables' doomed standing in
       subst P (ap (λ (v : InFlight). v.file) (same_Some _ _ (sym turn.is ∙ is))) (λ size e gives. (
       let same : after m (entry_by c d) ≡ with_call m c (with_number given) = reserve_gives ∙ ap (λ v. with_call m c (with_number v)) (sym (e ∙ number_least tables s.files s.tabled size)) in

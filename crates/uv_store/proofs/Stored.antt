@@ -18,7 +18,7 @@ use Rattle.uv_handles.specs.declared.slot.Slot.{Slot}
 use Rattle.uv_store.specs.declared.mark.Mark.{Mark}
 use Rattle.uv_store.specs.declared.mark.MarkChange.{MarkChange}
 use Rattle.uv_store.specs.Going.{entry_by}
-use Rattle.uv_store.specs.Marks.{word_on, users_on, mark_on, marks_by, mark_changed, mark_at}
+use Rattle.uv_store.specs.Marks.{word_on, users_on, mark_on, marks_by, mark_changed, marks_at_one}
 use Rattle.uv_store.specs.Stored.{IsLegalState, IsStored}
 use Rattle.uv_store.proofs.Still.{marks_alike, mark_alike, users_still, tables_still, counts_still}
 
@@ -30,16 +30,16 @@ pub record IsTurned (m m' : State) (o : ℕ) (change : MarkChange) : Type 0 wher
   pub others : (i : ℕ) → i ≢ o → word_on m'.calls i ≡ word_on m.calls i
 
 module _ (m m' : State) (o : ℕ) (change : MarkChange) (t : IsTurned m m' o change) where
-  mark_turned : (i : ℕ) → mark_at change o (mark_on m) i ≡ mark_on m' i
+  mark_turned : (i : ℕ) → marks_at_one change o (mark_on m) i ≡ mark_on m' i
   mark_turned =
       changed_elim (λ i k. k ≡ mark_on m' i) (mark_on m) o (mark_changed change (mark_on m o))
       (t.own ∙ mark_alike (record { word = word_on m'.calls o; users = users_on m.objects o }) (mark_on m' o) refl (sym (users_still m m' t.objects o)))
       (λ i apart. mark_alike (mark_on m i) (mark_on m' i) (sym (t.others i apart)) (sym (users_still m m' t.objects i)))
 
-  pub stored_turned : (marks marks' : List Mark) (tables : List (List Slot)) (doomed standing : List ℕ) → IsStored m marks tables doomed standing → marks' ≡ marks_by (mark_at change o (mark_on m)) m.objects → IsLegalState m' → IsStored m' marks' tables doomed standing
+  pub stored_turned : (marks marks' : List Mark) (tables : List (List Slot)) (doomed standing : List ℕ) → IsStored m marks tables doomed standing → marks' ≡ marks_by (marks_at_one change o (mark_on m)) m.objects → IsLegalState m' → IsStored m' marks' tables doomed standing
   stored_turned marks marks' tables doomed standing s is legal = record {
     legal = legal;
-    marked = is ∙ (marks_alike (mark_at change o (mark_on m)) (mark_on m') m.objects mark_turned ∙ ap (marks_by (mark_on m')) (sym t.objects));
+    marked = is ∙ (marks_alike (marks_at_one change o (mark_on m)) (mark_on m') m.objects mark_turned ∙ ap (marks_by (mark_on m')) (sym t.objects));
     files = s.files;
     tabled = tables_still m m' t.objects tables t.numbers s.tabled;
     dooms = counts_still m m' t.objects doomed is_doomed_in s.dooms;

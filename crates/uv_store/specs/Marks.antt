@@ -112,13 +112,13 @@ mark_changed GainsUser k = record k { users = more_users k.users }
 mark_changed LosesUser k = record k { users = fewer_users k.users }
 
 -- the marks with that of one object changed
-abbrev pub mark_at : MarkChange → ℕ → (ℕ → Mark) → ℕ → Mark
-mark_at change o g = changed g o (mark_changed change (g o))
+abbrev pub marks_at_one : MarkChange → ℕ → (ℕ → Mark) → ℕ → Mark
+marks_at_one change o g = changed g o (mark_changed change (g o))
 
 -- the marks with those of some objects changed, one after another
 abbrev pub marks_at : MarkChange → List ℕ → (ℕ → Mark) → ℕ → Mark
 marks_at change [] g = g
-marks_at change (o ∷ os) g = marks_at change os (mark_at change o g)
+marks_at change (o ∷ os) g = marks_at change os (marks_at_one change o g)
 
 -- the marks with one more, if there is room for it
 abbrev pub with_mark : Mark → List Mark → List Mark

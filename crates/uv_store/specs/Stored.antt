@@ -21,7 +21,7 @@ pub record Rises (objects : List Object) : Type 0 where
   pub rising : IsRising 0 objects top
 
 -- the object with this id stands at this place
-pub record IsPlaced (objects : List Object) (o i : ℕ) : Type 0 where
+pub record StandsAtPlace (objects : List Object) (o i : ℕ) : Type 0 where
   pub item : Object
   pub at : slice_get objects i ≡ Some item
   pub id : item.id ≡ o
@@ -29,7 +29,7 @@ pub record IsPlaced (objects : List Object) (o i : ℕ) : Type 0 where
 -- the place of the object with an id, none where there is no such object
 abbrev pub AtPlace : List Object → ℕ → Option ℕ → Type 0
 AtPlace objects o None = find (has_id o) objects ≡ None
-AtPlace objects o (Some i) = IsPlaced objects o i
+AtPlace objects o (Some i) = StandsAtPlace objects o i
 
 -- The whole.
 

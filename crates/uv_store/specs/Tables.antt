@@ -23,9 +23,9 @@ least_at None = Some 0
 least_at (Some table) = least_free_in table
 
 -- a table has all its numbers
-abbrev pub IsSized : Option (List Slot) → Type 0
-IsSized None = Unit {0}
-IsSized (Some table) = length table ≡ HANDLES
+abbrev pub HasAllNumbers : Option (List Slot) → Type 0
+HasAllNumbers None = Unit {0}
+HasAllNumbers (Some table) = length table ≡ HANDLES
 
 -- What stands at a number of a file: the object that a look finds there, or else that the number is set aside, for a call or for
 -- an object that isn't committed, or nothing.

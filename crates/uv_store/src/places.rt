@@ -6,7 +6,7 @@ ghost use Rattle.uv_num.specs.Ids.{ids_of};
 ghost use Rattle.uv_machine.specs.Objects.{has_id, on_object, with_change};
 ghost use Rattle.uv_machine.specs.Effects.{not_with_id, not_in_file};
 ghost use Rattle.uv_store.specs.declared.mark.Mark.{Mark};
-ghost use Rattle.uv_store.specs.Marks.{marks_by, mark_at, marks_at, mark_changed, with_mark};
+ghost use Rattle.uv_store.specs.Marks.{marks_by, marks_at_one, marks_at, mark_changed, with_mark};
 ghost use Rattle.uv_store.specs.Stored.{Rises, AtPlace};
 
 use crate::mark::{Mark, MarkChange};
@@ -114,7 +114,7 @@ pub(crate) fn turn_mark(
     change: MarkChange,
 )
     requires { Rises objects.now }
-    ensures { (g : ℕ → Mark) → marks.old ≡ marks_by g objects.now → marks.new ≡ marks_by (mark_at change id g) objects.now }
+    ensures { (g : ℕ → Mark) → marks.old ≡ marks_by g objects.now → marks.new ≡ marks_by (marks_at_one change id g) objects.now }
 {
     match place_in(objects, id) {
         None => {}

@@ -4,7 +4,7 @@ ghost use Rattle.std.specs.Prelude.{◌≡◌, IsTrue, IfOk, replicate, slice_ge
 ghost use Rattle.uv_num.specs.declared.limits.TheConstants.{FILES};
 ghost use Rattle.uv_num.specs.Place.{at_place};
 ghost use Rattle.uv_handles.specs.Table.{is_reserved_in, is_published_in, published_in, least_free_in, empty_table, reserved_if, published_at, freed_at};
-ghost use Rattle.uv_store.specs.Tables.{table_at, least_at, IsSized, IsSetAside, cleared, published_with};
+ghost use Rattle.uv_store.specs.Tables.{table_at, least_at, HasAllNumbers, IsSetAside, cleared, published_with};
 
 use std::alloc::{AllocError, Global};
 use uv_handles::Handles;
@@ -35,7 +35,7 @@ pub(crate) fn look(tables: &List<Handles>, file: u32, number: u32) -> Option<u32
 /// The least number of a file that isn't taken.
 pub(crate) fn least_free(tables: &List<Handles>, file: u32) -> Option<u32>
     ensures number { result ≡ least_at (slice_get tables.now file) }
-    ensures size { IsSized (slice_get tables.now file) }
+    ensures size { HasAllNumbers (slice_get tables.now file) }
 {
     match tables.get(file as usize) {
         None => Some(0),
@@ -47,7 +47,7 @@ pub(crate) fn least_free(tables: &List<Handles>, file: u32) -> Option<u32>
 pub(crate) fn reserve(tables: &mut List<Handles>, file: u32) -> Option<u32>
     ensures number { result ≡ least_free_in (table_at tables.old file) }
     ensures tables { tables.new ≡ at_place tables.old file (λ t. reserved_if (least_free_in t) t) }
-    ensures size { IsSized (slice_get tables.old file) }
+    ensures size { HasAllNumbers (slice_get tables.old file) }
 {
     let place = file as usize;
     if place < tables.len() {
