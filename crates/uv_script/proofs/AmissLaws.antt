@@ -10,22 +10,27 @@ use Rattle.uv_num.specs.declared.kind.Kind.TheVariants as kind
 use Rattle.uv_num.specs.declared.limits.TheConstants.{DRIVER, SCRIPT_LINES}
 use Rattle.uv_num.specs.declared.request.Request.{Request}
 use Rattle.uv_schema.specs.Commands.{command_of}
-use Rattle.uv_script.specs.Amiss.{Amiss, AmissLine, amiss_at, word_wrong, create_takes, verb_takes, is_operand, operands_left, then_amiss, name_amiss, after_amiss, is_built, bytes_are_built, built_amiss, verb_amiss, unknown_verb, verb_found, verbs_amiss, is_later_deed, client_amiss, driver_amiss, deed_amiss, living_amiss, plus_amiss, client_dies, die_amiss, head_amiss, unknown_head, head_found, words_amiss, text_amiss, line_amiss, amiss_then, amiss_from, LineIsAmiss, ScriptIsAmiss}
+use Rattle.uv_script.specs.Amiss.{Amiss, AmissLine, amiss_at, word_wrong, create_takes, verb_takes, data_takes, is_operand, operands_left, then_amiss, name_amiss, after_amiss, is_built, bytes_are_built, verb_amiss, verb_found, verbs_amiss, is_later_deed, client_amiss, driver_amiss, deed_amiss, data_amiss, data_call_amiss, plain_amiss, living_amiss, plus_amiss, client_dies, die_amiss, head_amiss, head_found, words_amiss, text_amiss, line_amiss, amiss_then, amiss_from, LineIsAmiss, ScriptIsAmiss}
 use Rattle.uv_script.specs.Before.{Before, at_start, is_dead}
 use Rattle.uv_script.specs.Built.{verb_for}
 use Rattle.uv_script.specs.Bytes.{spelled_bytes}
-use Rattle.uv_script.specs.Deeds.{Does, calls, opens, command_deed, gives_command, verb_deed, new_name, as_name, naming_after, Stated, stated, client_deed, driver_deed, deed_of}
-use Rattle.uv_script.specs.Handles.{handle_word, may_handle_word}
+use Rattle.uv_script.specs.DataCalls.{count_word, solicited_word, DataAsks, data_operands, ended, data_call, data_call_of}
+use Rattle.uv_script.specs.DataVerbs.{data_verb}
+use Rattle.uv_script.specs.Deeds.{Does, command_deed, gives_command, verb_deed, new_name, naming_after, Stated, stated, client_deed, driver_deed, deed_of}
+use Rattle.uv_script.specs.Handles.{handle_word, may_handle_word, object_word}
 use Rattle.uv_script.specs.Heads.{head_word}
 use Rattle.uv_script.specs.Lines.{lines_of, text_of, is_plain_text}
 use Rattle.uv_script.specs.Names.{is_name, Look, Naming}
 use Rattle.uv_script.specs.Numbers.{number_of}
 use Rattle.uv_script.specs.Operands.{service_word, create_operands, bind_operands}
 use Rattle.uv_script.specs.Places.{client_word, file_word, device_word}
-use Rattle.uv_script.specs.Reading.{Reading, Outside, Nothing, Says, says_plain, says_minus, living, says_plus, says_die, head_reading, given_head, words_reading, is_remark, text_reading, reading_of}
-use Rattle.uv_script.specs.Script.{is_outside, lines_at, after_line, in_front_of, line_then, script_from, script_of}
+use Rattle.uv_script.specs.Reading.{Reading, Outside, Nothing, Says, says_plain, says_data, plain_reading, says_minus, living, says_plus, says_die, head_reading, given_head, words_reading, is_remark, text_reading, reading_of}
+use Rattle.uv_script.specs.Script.{is_outside, lines_at, after_line, in_front_of, script_from}
 use Rattle.uv_script.specs.Verbs.{verb_word, kind_made}
 use Rattle.uv_script.specs.Words.{words_of, only_of, first_as, then_take}
+use Rattle.uv_script.specs.declared.data_verbs.DataWord.{DataWord}
+use Rattle.uv_script.specs.declared.data_verbs.DataWord.TheVariants as dataverb
+use Rattle.uv_script.specs.declared.form.DataCall.{DataCall}
 use Rattle.uv_script.specs.declared.form.Deed.{Deed}
 use Rattle.uv_script.specs.declared.form.Deed.TheVariants as deed
 use Rattle.uv_script.specs.declared.form.Form.{Form}
@@ -51,7 +56,7 @@ Fits (Some t) (Ok rest) = t.1 ≡ rest
 
 module _ {A B : Type 0} (look : Look) (os : List Operand) (next : A → List (List ℕ) → Option (B × List (List ℕ))) (each : (a : A) (rest : List (List ℕ)) → Fits (next a rest) (operands_left look os rest)) where
   word-fits : (o : Operand) (word : List ℕ) (words : List (List ℕ)) (r : Option A)
-      → Fits (then_take (option_map (λ value. (value, words)) r) next) (if is_some r then operands_left look os words else Err (record { word = word; wrong = word_wrong o word }))
+      → Fits (then_take (option_map (λ value. (value, words)) r) next) (if is_some r then operands_left look os words else Err (record { word = word; wrong = word_wrong look o word }))
   word-fits o word words None = tt
   word-fits o word words (Some a) = each a words
 
@@ -60,7 +65,7 @@ module _ {A B : Type 0} (look : Look) (os : List Operand) (next : A → List (Li
   taken-fits o read same [] = tt
   taken-fits o read same (word ∷ words) =
       subst
-      (λ (b : Bool). Fits (then_take (option_map (λ value. (value, words)) (read word)) next) (if b then operands_left look os words else Err (record { word = word; wrong = word_wrong o word })))
+      (λ (b : Bool). Fits (then_take (option_map (λ value. (value, words)) (read word)) next) (if b then operands_left look os words else Err (record { word = word; wrong = word_wrong look o word })))
       (sym (same word))
       (word-fits o word words (read word))
 
@@ -260,11 +265,52 @@ deed-of-amiss before word actor words =
     (driver-amiss before.look words)
     (client-amiss before.look words)
 
+-- Calls of the data path.
+
+data-fits : (look : Look) (v : DataWord) (words : List (List ℕ)) → Fits (data_operands look v words) (operands_left look (data_takes v) words)
+data-fits look dataverb.Poll words =
+    taken-fits look (operand.Count ∷ []) _ (λ cq rest1.
+    taken-fits look [] _ (λ count rest2. refl) operand.Count count_word (λ word. refl) rest1) (operand.Object kind.Cq) (object_word look kind.Cq) (λ word. refl) words
+data-fits look dataverb.Arm words =
+    taken-fits look (operand.Solicited ∷ []) _ (λ cq rest1.
+    taken-fits look [] _ (λ solicited rest2. refl) operand.Solicited solicited_word (λ word. refl) rest1) (operand.Object kind.Cq) (object_word look kind.Cq) (λ word. refl) words
+data-fits look dataverb.Event words = taken-fits look [] _ (λ channel rest1. refl) (operand.Object kind.Channel) (object_word look kind.Channel) (λ word. refl) words
+
+ended-amiss : (look : Look) (call : DataCall) (rest : List (List ℕ)) → is_some (after_amiss look None rest) ≡ is_none (ended call rest)
+ended-amiss look call [] = refl
+ended-amiss look call (word ∷ words) = refl
+
+asks-amiss : (look : Look) (asks : DataAsks) (left : Result (List (List ℕ)) Amiss) → Fits asks left → is_some (then_amiss left (after_amiss look None)) ≡ is_none (then_take asks ended)
+asks-amiss look None (Err a) fits = refl
+asks-amiss look None (Ok rest) fits = absurd fits
+asks-amiss look (Some t) (Err a) fits = absurd fits
+asks-amiss look (Some t) (Ok rest) fits = ap (λ (v : List (List ℕ)). is_some (after_amiss look None v)) (sym fits) ∙ ended-amiss look t.0 t.1
+
+data-amiss : (look : Look) (v : DataWord) (words : List (List ℕ)) → is_some (data_amiss look v words) ≡ is_none (data_call look v words)
+data-amiss look v words = asks-amiss look (data_operands look v words) (operands_left look (data_takes v) words) (data-fits look v words)
+
+client-so : (dead : Bool) (x : Amiss) (p : Option Amiss) (q : Option DataCall) → is_some p ≡ is_none q → is_some (if dead then Some x else p) ≡ is_none (if dead then None else q)
+client-so true x p q same = refl
+client-so false x p q same = same
+
+says-data-so : (client : ℕ) (call : Option DataCall) → is_none call ≡ is_outside (says_data client call)
+says-data-so client None = refl
+says-data-so client (Some call) = refl
+
+data-call-amiss : (before : Before) (word : List ℕ) (client : ℕ) (v : DataWord) (words : List (List ℕ)) → is_some (data_call_amiss before word client v words) ≡ is_none (data_call_of before client v words)
+data-call-amiss before word client v words =
+    client-so (is_dead before client) (record { word = word; wrong = wrong.Dead }) (data_amiss before.look v words) (data_call before.look v words) (data-amiss before.look v words)
+
 -- Heads.
 
 plain-so : (actor : ℕ) (read : Option Stated) → is_none read ≡ is_outside (says_plain actor read)
 plain-so actor None = refl
 plain-so actor (Some s) = refl
+
+plain-amiss : (before : Before) (word : List ℕ) (actor : ℕ) (words : List (List ℕ)) (taken : Option (DataWord × List (List ℕ)))
+    → is_some (plain_amiss before word actor words taken) ≡ is_outside (plain_reading before actor words taken)
+plain-amiss before word actor words None = deed-of-amiss before word actor words ∙ plain-so actor (deed_of before actor words)
+plain-amiss before word actor words (Some t) = data-call-amiss before word actor t.0 t.1 ∙ says-data-so actor (data_call_of before actor t.0 t.1)
 
 minus-so : (actor : ℕ) (read : Option Stated) → is_none read ≡ is_outside (says_minus actor read)
 minus-so actor None = refl
@@ -291,7 +337,7 @@ die-amiss before (word ∷ []) = dies-so before word (client_word word)
 die-amiss before (word ∷ next ∷ words) = refl
 
 head-amiss : (before : Before) (word : List ℕ) (h : Head) (words : List (List ℕ)) → is_some (head_amiss before word h words) ≡ is_outside (head_reading before h words)
-head-amiss before word (head.Plain actor) words = deed-of-amiss before word actor words ∙ plain-so actor (deed_of before actor words)
+head-amiss before word (head.Plain actor) words = plain-amiss before word actor words (data_verb actor words)
 head-amiss before word (head.Minus actor) words = deed-of-amiss before word actor words ∙ minus-so actor (deed_of before actor words)
 head-amiss before word (head.Plus actor) words = plus-amiss before word actor words
 head-amiss before word head.Die words = die-amiss before words

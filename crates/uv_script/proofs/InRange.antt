@@ -5,22 +5,30 @@ use Rattle.std.proofs.lemmas.List.Elements.{All-append}
 use Rattle.std.specs.List.{All}
 use Rattle.uv_num.specs.declared.errno.Errno.{Errno}
 use Rattle.uv_num.specs.declared.kind.Kind.{Kind}
+use Rattle.uv_num.specs.declared.kind.Kind.TheVariants.{Channel, Cq}
 use Rattle.uv_num.specs.declared.request.Request.{Request}
 use Rattle.uv_schema.specs.Commands.{command_of}
 use Rattle.uv_script.specs.Before.{Before, is_dead}
 use Rattle.uv_script.specs.Built.{verb_for}
 use Rattle.uv_script.specs.Bytes.{spelled_bytes}
+use Rattle.uv_script.specs.DataCalls.{as_count, count_word, solicited_word, data_operands, ended, data_call, data_call_of}
+use Rattle.uv_script.specs.DataVerbs.{data_word, data_verb}
 use Rattle.uv_script.specs.Deeds.{calls, opens, command_deed, gives_command, gives_bytes, verb_deed, naming_after, Stated, stated, client_deed, unplug_word, driver_deed, deed_of}
+use Rattle.uv_script.specs.Handles.{object_word}
 use Rattle.uv_script.specs.Heads.{head_word, actor_head, last_byte, without_last}
 use Rattle.uv_script.specs.Lines.{text_of, is_plain_text}
 use Rattle.uv_script.specs.Names.{Look}
+use Rattle.uv_script.specs.Numbers.{number_of}
 use Rattle.uv_script.specs.Operands.{Asks, create_operands, destroy_operands, bind_operands}
 use Rattle.uv_script.specs.Places.{numbered, as_client, as_file, as_device, client_word, actor_word, file_word, device_word}
-use Rattle.uv_script.specs.Ranges.{IsClient, IsActor, IsCaller, MayDo, HasRanges, IsInRange}
-use Rattle.uv_script.specs.Reading.{Reading, Outside, Nothing, Says, says_plain, says_minus, living, says_plus, says_die, head_reading, given_head, words_reading, is_remark, text_reading, reading_of}
+use Rattle.uv_script.specs.Ranges.{IsClient, IsActor, IsCaller, MayDo, IsPollCount, HasCallRanges, HasRanges, IsInRange}
+use Rattle.uv_script.specs.Reading.{Reading, Outside, Nothing, Says, says_plain, says_data, plain_reading, says_minus, living, says_plus, says_die, head_reading, given_head, words_reading, is_remark, text_reading, reading_of}
 use Rattle.uv_script.specs.Script.{lines_at}
 use Rattle.uv_script.specs.Verbs.{verb_word, kind_made}
 use Rattle.uv_script.specs.Words.{words_of, only_of, first_as}
+use Rattle.uv_script.specs.declared.data_verbs.DataWord.{DataWord}
+use Rattle.uv_script.specs.declared.data_verbs.DataWord.TheVariants as dataverb
+use Rattle.uv_script.specs.declared.form.DataCall.{DataCall}
 use Rattle.uv_script.specs.declared.form.Deed.{Deed}
 use Rattle.uv_script.specs.declared.form.Deed.TheVariants as deed
 use Rattle.uv_script.specs.declared.form.Form.{Form}
@@ -30,7 +38,7 @@ use Rattle.uv_script.specs.declared.heads.Head.{Head}
 use Rattle.uv_script.specs.declared.heads.Head.TheVariants as head
 use Rattle.uv_script.specs.declared.verbs.VerbWord.{VerbWord}
 use Rattle.uv_script.specs.declared.verbs.VerbWord.TheVariants as verb
-use Rattle.uv_script.proofs.Taken.{OfSome, choice-of, and_then-of, map-of, map-any, OfTaken, first_as-of, then_take-of, then_take-any}
+use Rattle.uv_script.proofs.Taken.{OfSome, any-of, choice-of, and_then-of, map-of, map-any, OfTaken, first_as-of, then_take-of, then_take-any}
 
 -- Places.
 
@@ -144,6 +152,41 @@ deed_of-range before actor words some =
     (λ yes. by-driver before.look actor words (eqb-true actor 9 yes))
     (λ no. client_deed-range before.look actor words (is-client actor some (eqb-false actor 9 no))))
 
+-- Calls of the data path.
+
+as_count-range : (n : ℕ) → OfSome IsPollCount (as_count n)
+as_count-range n =
+    choice-of IsPollCount (nat_le 1 n && nat_le n 64) (Some n) None (λ yes.
+    let both : (nat_le 1 n ≡ true) × (nat_le n 64 ≡ true) = and_parts (nat_le 1 n) (nat_le n 64) yes in
+    record { first = leb-true 1 n both.0; last = leb-true n 64 both.1 }) (λ no. tt)
+
+count_word-range : (word : List ℕ) → OfSome IsPollCount (count_word word)
+count_word-range word = and_then-of IsPollCount as_count (number_of word) as_count-range
+
+data_operands-range : (look : Look) (v : DataWord) (words : List (List ℕ)) → OfTaken HasCallRanges (data_operands look v words)
+data_operands-range look dataverb.Poll words =
+    then_take-any (λ t. HasCallRanges t.0) (first_as (object_word look Cq) words) _ (λ cq rest1.
+    then_take-of IsPollCount (λ t. HasCallRanges t.0) (first_as count_word rest1) _ (first_as-of IsPollCount count_word rest1 count_word-range) (λ count rest2 some. some))
+data_operands-range look dataverb.Arm words =
+    then_take-any (λ t. HasCallRanges t.0) (first_as (object_word look Cq) words) _ (λ cq rest1.
+    then_take-any (λ t. HasCallRanges t.0) (first_as solicited_word rest1) _ (λ solicited rest2. tt))
+data_operands-range look dataverb.Event words = then_take-any (λ t. HasCallRanges t.0) (first_as (object_word look Channel) words) _ (λ channel rest1. tt)
+
+ended-range : (call : DataCall) (rest : List (List ℕ)) → HasCallRanges call → OfSome HasCallRanges (ended call rest)
+ended-range call [] ranges = ranges
+ended-range call (word ∷ words) ranges = tt
+
+data_call_of-range : (before : Before) (client : ℕ) (v : DataWord) (words : List (List ℕ)) → OfSome HasCallRanges (data_call_of before client v words)
+data_call_of-range before client v words =
+    choice-of HasCallRanges (is_dead before client) None (data_call before.look v words) (λ dead. tt) (λ alive.
+    then_take-of HasCallRanges HasCallRanges (data_operands before.look v words) ended (data_operands-range before.look v words) ended-range)
+
+-- a verb of the data path stands after a client
+data_verb-client : (actor : ℕ) (words : List (List ℕ)) → IsActor actor → OfSome (λ t. IsClient actor) (data_verb actor words)
+data_verb-client actor words some =
+    choice-of (λ t. IsClient actor) (actor == 9) None (first_as data_word words) (λ yes. tt) (λ no.
+    first_as-of (λ v. IsClient actor) data_word words (λ word. any-of (λ v. IsClient actor) (data_word word) (λ v. is-client actor some (eqb-false actor 9 no))))
+
 -- Readings.
 
 -- what is said is in its ranges
@@ -159,6 +202,14 @@ choice-range false x y in_x in_y = in_y
 says_plain-range : (actor : ℕ) (told : Option Stated) → IsStatedInRange actor told → IsReadInRange (says_plain actor told)
 says_plain-range actor None may = tt
 says_plain-range actor (Some told) may = may
+
+says_data-range : (client : ℕ) (call : Option DataCall) → IsClient client → OfSome HasCallRanges call → IsReadInRange (says_data client call)
+says_data-range client None some ranges = tt
+says_data-range client (Some call) some ranges = (some, ranges)
+
+plain_reading-range : (before : Before) (actor : ℕ) (words : List (List ℕ)) (taken : Option (DataWord × List (List ℕ))) → IsActor actor → OfSome (λ t. IsClient actor) taken → IsReadInRange (plain_reading before actor words taken)
+plain_reading-range before actor words None some client = says_plain-range actor (deed_of before actor words) (deed_of-range before actor words some)
+plain_reading-range before actor words (Some t) some client = says_data-range actor (data_call_of before actor t.0 t.1) client (data_call_of-range before actor t.0 t.1)
 
 says_minus-range : (actor : ℕ) (told : Option Stated) → IsStatedInRange actor told → IsReadInRange (says_minus actor told)
 says_minus-range actor None may = tt
@@ -176,7 +227,7 @@ says_die-range before None some = tt
 says_die-range before (Some client) some = living-range before client (Die client) some
 
 head_reading-range : (before : Before) (h : Head) (words : List (List ℕ)) → IsHeadInRange h → IsReadInRange (head_reading before h words)
-head_reading-range before (head.Plain actor) words some = says_plain-range actor (deed_of before actor words) (deed_of-range before actor words some)
+head_reading-range before (head.Plain actor) words some = plain_reading-range before actor words (data_verb actor words) some (data_verb-client actor words some)
 head_reading-range before (head.Minus actor) words some = says_minus-range actor (deed_of before actor words) (deed_of-range before actor words some)
 head_reading-range before (head.Plus actor) words some = says_plus-range before actor words some
 head_reading-range before head.Die words some =

@@ -1,30 +1,37 @@
 -- Each name stands for what a line above makes.
-use Rattle.std.proofs.Common.{◌≡◌, ℕ, ◌==◌, List, [], ◌∷◌, ◌++◌, drop, refl, sym, ◌∙◌, ap, subst, Bool, true, false, cond, not, nat_lt, nat_le, Option, Some, None, option_and_then, option_map, option_to_list, Result, Ok, Err}
+use Rattle.std.proofs.Common.{◌≡◌, ℕ, zero, suc, ◌==◌, List, [], ◌∷◌, ◌++◌, drop, refl, sym, ◌∙◌, ap, subst, Bool, true, false, cond, not, nat_lt, nat_le, Option, Some, None, option_and_then, option_map, option_to_list, Result, Ok, Err}
+use Rattle.std.proofs.lemmas.Bool.{eqb-true}
 use Rattle.std.proofs.lemmas.List.Elements.{Contains-append_left, Contains-push}
 use Rattle.std.specs.List.{AllByRecursion}
 use Rattle.std.specs.Str.{bytes_eq}
+use Rattle.uv_num.specs.Kind.{kind_place}
 use Rattle.uv_num.specs.declared.errno.Errno.{Errno}
 use Rattle.uv_num.specs.declared.kind.Kind.{Kind}
 use Rattle.uv_num.specs.declared.kind.Kind.TheVariants as kind
 use Rattle.uv_num.specs.declared.request.Request.{Request}
 use Rattle.uv_num.specs.declared.request.Request.TheVariants as request
 use Rattle.uv_schema.specs.Commands.{command_of}
-use Rattle.uv_script.specs.Above.{objects_in, verb_kind, objects_by, deed_kind, objects_of, form_kind, IsMade, RefersTo, NamesStand, NamesStandForLinesAbove}
+use Rattle.uv_script.specs.Above.{objects_in, verb_kind, objects_by, deed_kind, objects_of, form_kind, Named, named_in, named_by, IsMade, RefersTo, IsMadeAs, NamesStand, NamesStandForLinesAbove}
 use Rattle.uv_script.specs.Before.{Before, is_dead, at_start}
 use Rattle.uv_script.specs.Built.{verb_for}
 use Rattle.uv_script.specs.Bytes.{spelled_bytes}
+use Rattle.uv_script.specs.DataCalls.{count_word, solicited_word, data_operands, ended, data_call, data_call_of}
+use Rattle.uv_script.specs.DataVerbs.{data_verb}
 use Rattle.uv_script.specs.Deeds.{calls, opens, command_deed, gives_command, gives_bytes, verb_deed, is_undeclared, new_name, as_name, naming_after, Stated, stated, client_deed, unplug_word, driver_deed, deed_of}
-use Rattle.uv_script.specs.Handles.{as_handle, named_handle, handle_word, may_handle_word}
+use Rattle.uv_script.specs.Handles.{as_handle, named_handle, handle_word, may_handle_word, is_of_kind, line_of, object_word}
 use Rattle.uv_script.specs.Heads.{head_word}
 use Rattle.uv_script.specs.Lines.{lines_of, text_of, is_plain_text}
 use Rattle.uv_script.specs.Names.{Look, Naming, with_naming}
 use Rattle.uv_script.specs.Numbers.{number_of}
 use Rattle.uv_script.specs.Operands.{Asks, service_word, cq_operands, srq_operands, qp_operands, ah_operands, mr_operands, mw_operands, bind_operands, create_operands, destroy_operands}
 use Rattle.uv_script.specs.Places.{client_word, file_word, device_word}
-use Rattle.uv_script.specs.Reading.{Reading, Outside, Nothing, Says, says_plain, says_minus, says_plus, says_die, head_reading, given_head, words_reading, is_remark, reading_of}
+use Rattle.uv_script.specs.Reading.{Reading, Outside, Nothing, Says, says_plain, says_data, plain_reading, says_minus, says_plus, says_die, head_reading, given_head, words_reading, is_remark, reading_of}
 use Rattle.uv_script.specs.Script.{lines_at, after_line, script_from}
 use Rattle.uv_script.specs.Verbs.{verb_word, kind_made}
 use Rattle.uv_script.specs.Words.{words_of, only_of, first_as, then_take}
+use Rattle.uv_script.specs.declared.data_verbs.DataWord.{DataWord}
+use Rattle.uv_script.specs.declared.data_verbs.DataWord.TheVariants as dataverb
+use Rattle.uv_script.specs.declared.form.DataCall.{DataCall}
 use Rattle.uv_script.specs.declared.form.Deed.{Deed}
 use Rattle.uv_script.specs.declared.form.Deed.TheVariants as deed
 use Rattle.uv_script.specs.declared.form.Form.{Form}
@@ -276,12 +283,87 @@ deed-told before actor words =
     choice-of (λ s. IsTold before.look s.deed s.naming) (actor == 9) (driver_deed before.look words) (client_deed before.look words)
     (λ yes. driver-told before.look words) (λ no. client-told before.look words))
 
+-- Calls of the data path.
+
+-- the kind at a place of a table by kinds
+kind_at : ℕ → Kind
+kind_at zero = kind.Pd
+kind_at (suc zero) = kind.Channel
+kind_at (suc (suc zero)) = kind.Cq
+kind_at (suc (suc (suc zero))) = kind.Qp
+kind_at (suc (suc (suc (suc zero)))) = kind.Srq
+kind_at (suc (suc (suc (suc (suc zero))))) = kind.Ah
+kind_at (suc (suc (suc (suc (suc (suc zero)))))) = kind.Mr
+kind_at (suc (suc (suc (suc (suc (suc (suc n))))))) = kind.Mw
+
+kind_at-place : (k : Kind) → kind_at (kind_place k) ≡ k
+unfolding kind_at
+kind_at-place kind.Pd = refl
+kind_at-place kind.Channel = refl
+kind_at-place kind.Cq = refl
+kind_at-place kind.Qp = refl
+kind_at-place kind.Srq = refl
+kind_at-place kind.Ah = refl
+kind_at-place kind.Mr = refl
+kind_at-place kind.Mw = refl
+
+is_of_kind-same : (k : Kind) (known : Known) → is_of_kind k known ≡ true → known.kind ≡ k
+is_of_kind-same k known is = sym (kind_at-place known.kind) ∙ ap kind_at (eqb-true (kind_place known.kind) (kind_place k) is) ∙ kind_at-place k
+
+-- a name that is known has this line and kind
+pub record IsKnownAs (look : Look) (named : Named) : Type 0 where
+  pub name : List ℕ
+  pub known : Known
+  pub found : look name ≡ Some known
+  pub line : known.line ≡ named.line
+  pub kind : known.kind ≡ named.kind
+
+abbrev pub AreKnown : Look → List Named → Type 0
+AreKnown look named = AllByRecursion (IsKnownAs look) named
+
+abbrev pub IsObject : Look → Kind → ℕ → Type 0
+IsObject look k line = IsKnownAs look (record { line = line; kind = k })
+
+looked-object : (look : Look) (k : Kind) (word : List ℕ) (o : Option Known) → look word ≡ o → OfSome (IsObject look k) (option_and_then (line_of k) o)
+looked-object look k word None is = tt
+looked-object look k word (Some known) is =
+    choice-of (IsObject look k) (is_of_kind k known) (Some known.line) None
+    (λ same. record { name = word; known = known; found = is; line = refl; kind = is_of_kind-same k known same }) (λ other. tt)
+
+object_word-of : (look : Look) (k : Kind) (word : List ℕ) → OfSome (IsObject look k) (object_word look k word)
+object_word-of look k word = looked-object look k word (look word) refl
+
+take-object : {B : Type 0} (look : Look) (k : Kind) (Q : B → Type 0) (words : List (List ℕ)) (next : ℕ → List (List ℕ) → Option B) → ((line : ℕ) (rest : List (List ℕ)) → IsObject look k line → OfSome Q (next line rest)) → OfSome Q (then_take (first_as (object_word look k) words) next)
+take-object look k Q words next each =
+    then_take-of (IsObject look k) Q (first_as (object_word look k) words) next (first_as-of (IsObject look k) (object_word look k) words (object_word-of look k)) each
+
+abbrev pub NamesKnown : Look → DataCall → Type 0
+NamesKnown look call = AreKnown look (named_in call)
+
+data_operands-of : (look : Look) (v : DataWord) (words : List (List ℕ)) → OfTaken (NamesKnown look) (data_operands look v words)
+data_operands-of look dataverb.Poll words =
+    take-object look kind.Cq (λ t. NamesKnown look t.0) words _ (λ cq rest1 so.
+    then_take-any (λ t. NamesKnown look t.0) (first_as count_word rest1) _ (λ count rest2. (so, tt)))
+data_operands-of look dataverb.Arm words =
+    take-object look kind.Cq (λ t. NamesKnown look t.0) words _ (λ cq rest1 so.
+    then_take-any (λ t. NamesKnown look t.0) (first_as solicited_word rest1) _ (λ solicited rest2. (so, tt)))
+data_operands-of look dataverb.Event words = take-object look kind.Channel (λ t. NamesKnown look t.0) words _ (λ channel rest1 so. (so, tt))
+
+ended-of : (look : Look) (call : DataCall) (rest : List (List ℕ)) → NamesKnown look call → OfSome (NamesKnown look) (ended call rest)
+ended-of look call [] so = so
+ended-of look call (word ∷ words) so = tt
+
+data_call_of-of : (before : Before) (client : ℕ) (v : DataWord) (words : List (List ℕ)) → OfSome (NamesKnown before.look) (data_call_of before client v words)
+data_call_of-of before client v words =
+    choice-of (NamesKnown before.look) (is_dead before client) None (data_call before.look v words) (λ dead. tt) (λ alive.
+    then_take-of (NamesKnown before.look) (NamesKnown before.look) (data_operands before.look v words) ended (data_operands-of before.look v words) (ended-of before.look))
+
 -- Readings.
 
 abbrev pub IsRead : Look → Reading → Type 0
 IsRead look Outside = Unit {0}
 IsRead look Nothing = Unit {0}
-IsRead look (Says form naming) = AreOfLook look (objects_of form) × IsNaming (form_kind form) naming
+IsRead look (Says form naming) = AreOfLook look (objects_of form) × AreKnown look (named_by form) × IsNaming (form_kind form) naming
 
 choice-read : (look : Look) (b : Bool) (x y : Reading) → IsRead look x → IsRead look y → IsRead look (cond b x y)
 choice-read look true x y first second = first
@@ -289,22 +371,30 @@ choice-read look false x y first second = second
 
 plain-read : (look : Look) (actor : ℕ) (told : Option Stated) → OfSome (λ s. IsTold look s.deed s.naming) told → IsRead look (says_plain actor told)
 plain-read look actor None so = tt
-plain-read look actor (Some s) so = (so.handles, so.names)
+plain-read look actor (Some s) so = (so.handles, tt, so.names)
+
+data-read : (look : Look) (client : ℕ) (call : Option DataCall) → OfSome (NamesKnown look) call → IsRead look (says_data client call)
+data-read look client None so = tt
+data-read look client (Some call) so = (tt, so, no-naming None)
+
+found-read : (before : Before) (actor : ℕ) (words : List (List ℕ)) (taken : Option (DataWord × List (List ℕ))) → IsRead before.look (plain_reading before actor words taken)
+found-read before actor words None = plain-read before.look actor (deed_of before actor words) (deed-told before actor words)
+found-read before actor words (Some t) = data-read before.look actor (data_call_of before actor t.0 t.1) (data_call_of-of before actor t.0 t.1)
 
 minus-read : (look : Look) (actor : ℕ) (told : Option Stated) → OfSome (λ s. IsTold look s.deed s.naming) told → IsRead look (says_minus actor told)
 minus-read look actor None so = tt
-minus-read look actor (Some s) so = (so.handles, so.names)
+minus-read look actor (Some s) so = (so.handles, tt, so.names)
 
 plus-read : (before : Before) (actor : ℕ) (words : List (List ℕ)) → IsRead before.look (says_plus before actor words)
-plus-read before actor [] = choice-read before.look (is_dead before actor) Outside (Says (Plus actor) None) tt (tt, no-naming None)
+plus-read before actor [] = choice-read before.look (is_dead before actor) Outside (Says (Plus actor) None) tt (tt, tt, no-naming None)
 plus-read before actor (word ∷ words) = tt
 
 die-read : (before : Before) (client : Option ℕ) → IsRead before.look (says_die before client)
 die-read before None = tt
-die-read before (Some client) = choice-read before.look (is_dead before client) Outside (Says (Die client) None) tt (tt, no-naming None)
+die-read before (Some client) = choice-read before.look (is_dead before client) Outside (Says (Die client) None) tt (tt, tt, no-naming None)
 
 head-read : (before : Before) (h : Head) (words : List (List ℕ)) → IsRead before.look (head_reading before h words)
-head-read before (head.Plain actor) words = plain-read before.look actor (deed_of before actor words) (deed-told before actor words)
+head-read before (head.Plain actor) words = found-read before actor words (data_verb actor words)
 head-read before (head.Minus actor) words = minus-read before.look actor (deed_of before actor words) (deed-told before actor words)
 head-read before (head.Plus actor) words = plus-read before actor words
 head-read before head.Die words = die-read before (option_and_then client_word (only_of words))
@@ -357,12 +447,23 @@ handles-stand : (above : List Line) (look : Look) (handles : List Handle) → Kn
 handles-stand above look [] knows so = tt
 handles-stand above look (h ∷ handles) knows so = (handle-stands above look h knows so.0, handles-stand above look handles knows so.1)
 
+named-stands : (above : List Line) (look : Look) (named : Named) → Knows above look → IsKnownAs look named → IsMadeAs above named
+named-stands above look named knows so =
+    let P : ℕ → Type 0 = λ n. IsMade above n named.kind in
+    let Q : Kind → Type 0 = λ k. IsMade above so.known.line k in
+    subst P so.line (subst Q so.kind (knows so.name so.known so.found))
+
+named-stand : (above : List Line) (look : Look) (named : List Named) → Knows above look → AreKnown look named → AllByRecursion (IsMadeAs above) named
+named-stand above look [] knows so = tt
+named-stand above look (one ∷ named) knows so = (named-stands above look one knows so.0, named-stand above look named knows so.1)
+
 names-more : (before : Before) (reading : Reading) (above lines rest : List Line) → IsRead before.look reading → Knows above before.look → lines ≡ lines_at before.number reading ++ rest → ((more : List Line) → Knows more (after_line before reading).look → NamesStand more rest) → NamesStand above lines
 names-more before Outside above lines rest so knows is next = let P : List Line → Type 0 = NamesStand above in subst P (sym is) (next above knows)
 names-more before Nothing above lines rest so knows is next = let P : List Line → Type 0 = NamesStand above in subst P (sym is) (next above knows)
 names-more before (Says form naming) above lines rest so knows is next =
     let P : List Line → Type 0 = NamesStand above in
-    subst P (sym is) (handles-stand above before.look (objects_of form) knows so.0, next (above ++ record { number = before.number; form = form } ∷ []) (knows-more above before.number form naming before.look so.1 knows))
+    subst P (sym is)
+    (handles-stand above before.look (objects_of form) knows so.0, named-stand above before.look (named_by form) knows so.1, next (above ++ record { number = before.number; form = form } ∷ []) (knows-more above before.number form naming before.look so.2 knows))
 
 names-from : (mode : Mode) (before : Before) (texts : List (List ℕ)) (above lines : List Line) → Knows above before.look → script_from mode before texts ≡ Ok lines → NamesStand above lines
 names-from Steps before [] above [] knows is = tt

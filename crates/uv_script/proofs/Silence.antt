@@ -5,13 +5,17 @@ use Rattle.std.proofs.lemmas.List.Folds.{list_any-append}
 use Rattle.std.specs.List.{list_any, AllByRecursion}
 use Rattle.uv_script.specs.Before.{Before, is_dead, at_start}
 use Rattle.uv_script.specs.Deaths.{actor_of, IsOfOthers, AreOfLiving, TheDeadAreSilent}
+use Rattle.uv_script.specs.DataCalls.{data_call_of}
+use Rattle.uv_script.specs.DataVerbs.{data_verb}
 use Rattle.uv_script.specs.Deeds.{Stated, deed_of}
 use Rattle.uv_script.specs.Heads.{head_word}
 use Rattle.uv_script.specs.Lines.{lines_of, text_of, is_plain_text}
 use Rattle.uv_script.specs.Places.{client_word}
-use Rattle.uv_script.specs.Reading.{Reading, Outside, Nothing, Says, says_plain, says_minus, living, says_plus, says_die, head_reading, given_head, words_reading, is_remark, text_reading, reading_of}
+use Rattle.uv_script.specs.Reading.{Reading, Outside, Nothing, Says, says_plain, says_data, plain_reading, says_minus, living, says_plus, says_die, head_reading, given_head, words_reading, is_remark, text_reading, reading_of}
 use Rattle.uv_script.specs.Script.{dying, lines_at, after_line, script_from}
 use Rattle.uv_script.specs.Words.{words_of, only_of}
+use Rattle.uv_script.specs.declared.data_verbs.DataWord.{DataWord}
+use Rattle.uv_script.specs.declared.form.DataCall.{DataCall}
 use Rattle.uv_script.specs.declared.form.Form.{Form}
 use Rattle.uv_script.specs.declared.form.Form.TheVariants.{Plus, Die}
 use Rattle.uv_script.specs.declared.form.Line.{Line}
@@ -32,14 +36,22 @@ choice-alive : (before : Before) (b : Bool) (x y : Reading) → (b ≡ true → 
 choice-alive before true x y first second = first refl
 choice-alive before false x y first second = second refl
 
--- a deed of an actor that died is none
-alive-stated : (dead : Bool) (rest : Option Stated) (told : Stated) → cond dead None rest ≡ Some told → dead ≡ false
+-- what an actor that died does is none
+alive-stated : {A : Type 0} (dead : Bool) (rest : Option A) (told : A) → cond dead None rest ≡ Some told → dead ≡ false
 alive-stated true rest told is = cc
 alive-stated false rest told is = refl
 
 plain-alive : (before : Before) (actor : ℕ) (told : Option Stated) → ((s : Stated) → told ≡ Some s → is_dead before actor ≡ false) → IsAlive before (says_plain actor told)
 plain-alive before actor None alive = tt
 plain-alive before actor (Some s) alive = alive s refl
+
+data-alive : (before : Before) (client : ℕ) (call : Option DataCall) → ((c : DataCall) → call ≡ Some c → is_dead before client ≡ false) → IsAlive before (says_data client call)
+data-alive before client None alive = tt
+data-alive before client (Some c) alive = alive c refl
+
+found-alive : (before : Before) (actor : ℕ) (words : List (List ℕ)) (taken : Option (DataWord × List (List ℕ))) → IsAlive before (plain_reading before actor words taken)
+found-alive before actor words None = plain-alive before actor (deed_of before actor words) (λ s is. alive-stated (is_dead before actor) _ s is)
+found-alive before actor words (Some t) = data-alive before actor (data_call_of before actor t.0 t.1) (λ c is. alive-stated (is_dead before actor) _ c is)
 
 minus-alive : (before : Before) (actor : ℕ) (told : Option Stated) → ((s : Stated) → told ≡ Some s → is_dead before actor ≡ false) → IsAlive before (says_minus actor told)
 minus-alive before actor None alive = tt
@@ -58,7 +70,7 @@ die-alive before None = tt
 die-alive before (Some client) = living-alive before client (Die client) refl
 
 head-alive : (before : Before) (h : Head) (words : List (List ℕ)) → IsAlive before (head_reading before h words)
-head-alive before (head.Plain actor) words = plain-alive before actor (deed_of before actor words) (λ s is. alive-stated (is_dead before actor) _ s is)
+head-alive before (head.Plain actor) words = found-alive before actor words (data_verb actor words)
 head-alive before (head.Minus actor) words = minus-alive before actor (deed_of before actor words) (λ s is. alive-stated (is_dead before actor) _ s is)
 head-alive before (head.Plus actor) words = plus-alive before actor words
 head-alive before head.Die words = die-alive before (option_and_then client_word (only_of words))

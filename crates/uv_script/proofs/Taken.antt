@@ -8,6 +8,10 @@ abbrev pub OfSome : {A : Type 0} → (A → Type 0) → Option A → Type 0
 OfSome P None = Unit {0}
 OfSome P (Some a) = P a
 
+pub any-of : {A : Type 0} (P : A → Type 0) (o : Option A) → ((a : A) → P a) → OfSome P o
+any-of P None each = tt
+any-of P (Some a) each = each a
+
 pub choice-of : {A : Type 0} (P : A → Type 0) (b : Bool) (x y : Option A) → (b ≡ true → OfSome P x) → (b ≡ false → OfSome P y) → OfSome P (cond b x y)
 choice-of P true x y first second = first refl
 choice-of P false x y first second = second refl

@@ -4,10 +4,12 @@ use Rattle.std.specs.List.{AllByRecursion, Contains}
 use Rattle.uv_num.specs.declared.kind.Kind.{Kind}
 use Rattle.uv_num.specs.declared.kind.Kind.TheVariants as kind
 use Rattle.uv_script.specs.Script.{script_of}
+use Rattle.uv_script.specs.declared.form.DataCall.{DataCall}
+use Rattle.uv_script.specs.declared.form.DataCall.TheVariants.{Poll, Arm, Event}
 use Rattle.uv_script.specs.declared.form.Deed.{Deed}
 use Rattle.uv_script.specs.declared.form.Deed.TheVariants.{Open, Call, Refused, Close, Unplug}
 use Rattle.uv_script.specs.declared.form.Form.{Form}
-use Rattle.uv_script.specs.declared.form.Form.TheVariants.{Plain, Minus, Plus, Die}
+use Rattle.uv_script.specs.declared.form.Form.TheVariants.{Plain, Minus, Plus, Die, Data}
 use Rattle.uv_script.specs.declared.form.Handle.{Handle}
 use Rattle.uv_script.specs.declared.form.Handle.TheVariants.{Number, Name}
 use Rattle.uv_script.specs.declared.form.Line.{Line}
@@ -64,12 +66,31 @@ objects_of (Plain actor deed) = objects_by deed
 objects_of (Minus actor deed) = objects_by deed
 objects_of (Plus actor) = []
 objects_of (Die client) = []
+objects_of (Data client call) = []
 
 abbrev pub form_kind : Form → Option Kind
 form_kind (Plain actor deed) = deed_kind deed
 form_kind (Minus actor deed) = deed_kind deed
 form_kind (Plus actor) = None
 form_kind (Die client) = None
+form_kind (Data client call) = None
+
+-- what a call of the data path names: the number of a line, and the kind of what that line makes
+pub record Named : Type 0 where
+  pub line : ℕ
+  pub kind : Kind
+
+abbrev pub named_in : DataCall → List Named
+named_in (Poll cq count) = record { line = cq; kind = kind.Cq } ∷ []
+named_in (Arm cq solicited) = record { line = cq; kind = kind.Cq } ∷ []
+named_in (Event channel) = record { line = channel; kind = kind.Channel } ∷ []
+
+abbrev pub named_by : Form → List Named
+named_by (Plain actor deed) = []
+named_by (Minus actor deed) = []
+named_by (Plus actor) = []
+named_by (Die client) = []
+named_by (Data client call) = named_in call
 
 -- one of these lines has this number, and makes an object of this kind
 pub record IsMade (above : List Line) (number : ℕ) (k : Kind) : Type 0 where
@@ -83,10 +104,15 @@ abbrev pub RefersTo : List Line → Handle → Type 0
 RefersTo above (Number n) = Unit {0}
 RefersTo above (Name number) = (k : Kind) × IsMade above number k
 
--- each name of some lines stands for what a line above makes, where these lines stand above all
+abbrev pub IsMadeAs : List Line → Named → Type 0
+IsMadeAs above named = IsMade above named.line named.kind
+
+-- each name of some lines stands for what a line above makes, where these lines stand above all, and one of a call of the data
+-- path for an object of the kind that the call is of
 abbrev pub NamesStand : List Line → List Line → Type 0
 NamesStand above [] = Unit {0}
-NamesStand above (line ∷ lines) = AllByRecursion (RefersTo above) (objects_of line.form) × NamesStand (above ++ line ∷ []) lines
+NamesStand above (line ∷ lines) =
+    AllByRecursion (RefersTo above) (objects_of line.form) × AllByRecursion (IsMadeAs above) (named_by line.form) × NamesStand (above ++ line ∷ []) lines
 
 abbrev pub NamesStandForLinesAbove : Type 0
 NamesStandForLinesAbove = (mode : Mode) (bytes : List ℕ) (lines : List Line) → script_of mode bytes ≡ Ok lines → NamesStand [] lines

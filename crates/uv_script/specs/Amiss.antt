@@ -1,11 +1,11 @@
 -- What is wrong with a line that is outside the language: the word at which the reading stops, and why. The readings are those of
 -- `Reading`, `Deeds` and `Operands`, in the same order. The law at the end ties the two: something is wrong exactly where a line
 -- is outside the language.
-use Rattle.std.specs.Prelude.{◌≡◌, ℕ, Bool, true, not, ◌==◌, ◌||◌, nat_eq, nat_lt, List, [], ◌∷◌, drop, codes, Option, Some, None, is_some, is_none, option_map, Result, Ok, Err, if◌then◌else◌}
+use Rattle.std.specs.Prelude.{◌≡◌, ℕ, Bool, true, not, ◌==◌, ◌&&◌, ◌||◌, nat_eq, nat_lt, List, [], ◌∷◌, drop, codes, Option, Some, None, is_some, is_none, option_map, Result, Ok, Err, if◌then◌else◌}
 use Rattle.std.specs.Char.{is_ascii_digit}
 use Rattle.std.specs.Cmp.Lexicographic.{pointwise}
 use Rattle.std.specs.List.{list_all, starts_with}
-use Rattle.std.specs.Option.{option_or, option_map_or}
+use Rattle.std.specs.Option.{option_or}
 use Rattle.std.specs.Result.{result_err}
 use Rattle.uv_num.specs.declared.errno.Errno.{Errno}
 use Rattle.uv_num.specs.declared.kind.Kind.{Kind}
@@ -16,7 +16,9 @@ use Rattle.uv_schema.specs.Commands.{command_of}
 use Rattle.uv_script.specs.Before.{Before, at_start, is_dead}
 use Rattle.uv_script.specs.Built.{verb_for}
 use Rattle.uv_script.specs.Bytes.{spelled_bytes}
-use Rattle.uv_script.specs.Handles.{handle_word, may_handle_word}
+use Rattle.uv_script.specs.DataCalls.{count_word, solicited_word}
+use Rattle.uv_script.specs.DataVerbs.{data_verb}
+use Rattle.uv_script.specs.Handles.{handle_word, may_handle_word, object_word}
 use Rattle.uv_script.specs.Heads.{head_word}
 use Rattle.uv_script.specs.Lines.{lines_of, text_of, is_plain_text}
 use Rattle.uv_script.specs.Names.{is_name, Look}
@@ -27,6 +29,8 @@ use Rattle.uv_script.specs.Reading.{is_remark, reading_of}
 use Rattle.uv_script.specs.Script.{is_outside, after_line, script_of}
 use Rattle.uv_script.specs.Verbs.{verb_word, kind_made}
 use Rattle.uv_script.specs.Words.{words_of}
+use Rattle.uv_script.specs.declared.data_verbs.DataWord.{DataWord}
+use Rattle.uv_script.specs.declared.data_verbs.DataWord.TheVariants as dataverb
 use Rattle.uv_script.specs.declared.form.Mode.{Mode}
 use Rattle.uv_script.specs.declared.heads.Head.{Head}
 use Rattle.uv_script.specs.declared.heads.Head.TheVariants as head
@@ -66,14 +70,24 @@ named_wrong word = if is_name word then wrong.Undeclared else wrong.NotA operand
 abbrev pub handle_wrong : List ℕ → Wrong
 handle_wrong word = if starts_with nat_eq word (codes "#") then numbered_wrong (drop 1 word) else named_wrong word
 
-abbrev pub word_wrong : Operand → List ℕ → Wrong
-word_wrong operand.File word = wrong.NotA operand.File
-word_wrong operand.Device word = wrong.NotA operand.Device
-word_wrong operand.Handle word = handle_wrong word
-word_wrong operand.MayHandle word = handle_wrong word
-word_wrong operand.Number word = number_wrong word
-word_wrong operand.Service word = wrong.NotA operand.Service
-word_wrong operand.Bytes word = wrong.NotA operand.Bytes
+-- a name that is declared is one of another kind
+abbrev pub object_wrong : Look → Kind → List ℕ → Wrong
+object_wrong look k word = if is_name word && is_none (look word) then wrong.Undeclared else wrong.NotA (operand.Object k)
+
+abbrev pub count_wrong : List ℕ → Wrong
+count_wrong word = if is_none (number_of word) then number_wrong word else wrong.NotA operand.Count
+
+abbrev pub word_wrong : Look → Operand → List ℕ → Wrong
+word_wrong look operand.File word = wrong.NotA operand.File
+word_wrong look operand.Device word = wrong.NotA operand.Device
+word_wrong look operand.Handle word = handle_wrong word
+word_wrong look operand.MayHandle word = handle_wrong word
+word_wrong look operand.Number word = number_wrong word
+word_wrong look operand.Service word = wrong.NotA operand.Service
+word_wrong look operand.Bytes word = wrong.NotA operand.Bytes
+word_wrong look (operand.Object k) word = object_wrong look k word
+word_wrong look operand.Count word = count_wrong word
+word_wrong look operand.Solicited word = wrong.NotA operand.Solicited
 
 -- The operands of each verb, by their places.
 
@@ -96,6 +110,12 @@ verb_takes (verb.Destroy k) = operand.Handle ∷ []
 verb_takes verb.BindMw = operand.Handle ∷ operand.MayHandle ∷ operand.Number ∷ operand.Number ∷ operand.Number ∷ []
 verb_takes verb.GetAsync = []
 
+-- the same of the data path's calls
+abbrev pub data_takes : DataWord → List Operand
+data_takes dataverb.Poll = operand.Object kind.Cq ∷ operand.Count ∷ []
+data_takes dataverb.Arm = operand.Object kind.Cq ∷ operand.Solicited ∷ []
+data_takes dataverb.Event = operand.Object kind.Channel ∷ []
+
 abbrev pub is_operand : Look → Operand → List ℕ → Bool
 is_operand look operand.File word = is_some (file_word word)
 is_operand look operand.Device word = is_some (device_word word)
@@ -104,13 +124,16 @@ is_operand look operand.MayHandle word = is_some (may_handle_word look word)
 is_operand look operand.Number word = is_some (number_of word)
 is_operand look operand.Service word = is_some (service_word word)
 is_operand look operand.Bytes word = is_some (spelled_bytes word)
+is_operand look (operand.Object k) word = is_some (object_word look k word)
+is_operand look operand.Count word = is_some (count_word word)
+is_operand look operand.Solicited word = is_some (solicited_word word)
 
 -- the words after these operands, or what is wrong with the first that isn't one
 abbrev pub operands_left : Look → List Operand → List (List ℕ) → Result (List (List ℕ)) Amiss
 operands_left look [] words = Ok words
 operands_left look (o ∷ os) [] = Err (record { word = []; wrong = wrong.Missing o })
 operands_left look (o ∷ os) (word ∷ words) =
-    if is_operand look o word then operands_left look os words else Err (record { word = word; wrong = word_wrong o word })
+    if is_operand look o word then operands_left look os words else Err (record { word = word; wrong = word_wrong look o word })
 
 -- what is wrong with operands, or with what stands after them
 abbrev pub then_amiss : Result (List (List ℕ)) Amiss → (List (List ℕ) → Option Amiss) → Option Amiss
@@ -179,8 +202,7 @@ verbs_amiss look (word ∷ words) = verb_found look word words (verb_word word)
 -- the words of lines that aren't built yet, in the place of a file
 abbrev pub is_later_deed : List ℕ → Bool
 is_later_deed word =
-    pointwise nat_eq word (codes "post_send") || pointwise nat_eq word (codes "post_recv") || pointwise nat_eq word (codes "post_srq") || pointwise nat_eq word (codes "poll")
-    || pointwise nat_eq word (codes "arm") || pointwise nat_eq word (codes "event") || pointwise nat_eq word (codes "poke") || pointwise nat_eq word (codes "peek")
+    pointwise nat_eq word (codes "post_send") || pointwise nat_eq word (codes "post_recv") || pointwise nat_eq word (codes "post_srq") || pointwise nat_eq word (codes "poke") || pointwise nat_eq word (codes "peek")
 
 abbrev pub client_amiss : Look → List (List ℕ) → Option Amiss
 client_amiss look [] = amiss_at [] (wrong.Missing operand.File)
@@ -200,7 +222,19 @@ deed_amiss before word actor words =
     if is_dead before actor then amiss_at word wrong.Dead
     else (if actor == DRIVER then driver_amiss before.look words else client_amiss before.look words)
 
+-- Calls of the data path.
+
+abbrev pub data_amiss : Look → DataWord → List (List ℕ) → Option Amiss
+data_amiss look v words = then_amiss (operands_left look (data_takes v) words) (after_amiss look None)
+
+abbrev pub data_call_amiss : Before → List ℕ → ℕ → DataWord → List (List ℕ) → Option Amiss
+data_call_amiss before word client v words = if is_dead before client then amiss_at word wrong.Dead else data_amiss before.look v words
+
 -- Heads.
+
+abbrev pub plain_amiss : Before → List ℕ → ℕ → List (List ℕ) → Option (DataWord × List (List ℕ)) → Option Amiss
+plain_amiss before word actor words None = deed_amiss before word actor words
+plain_amiss before word actor words (Some taken) = data_call_amiss before word actor taken.0 taken.1
 
 abbrev pub living_amiss : Before → List ℕ → ℕ → Option Amiss
 living_amiss before word actor = if is_dead before actor then amiss_at word wrong.Dead else None
@@ -219,7 +253,7 @@ die_amiss before (word ∷ []) = client_dies before word (client_word word)
 die_amiss before (word ∷ next ∷ words) = amiss_at next wrong.More
 
 abbrev pub head_amiss : Before → List ℕ → Head → List (List ℕ) → Option Amiss
-head_amiss before word (head.Plain actor) words = deed_amiss before word actor words
+head_amiss before word (head.Plain actor) words = plain_amiss before word actor words (data_verb actor words)
 head_amiss before word (head.Minus actor) words = deed_amiss before word actor words
 head_amiss before word (head.Plus actor) words = plus_amiss before word actor words
 head_amiss before word head.Die words = die_amiss before words

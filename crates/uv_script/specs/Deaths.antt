@@ -3,7 +3,7 @@ use Rattle.std.specs.Prelude.{◌≡◌, ℕ, false, nat_eq, List, [], ◌∷◌
 use Rattle.std.specs.List.{list_any, AllByRecursion}
 use Rattle.uv_script.specs.Script.{dying, script_of}
 use Rattle.uv_script.specs.declared.form.Form.{Form}
-use Rattle.uv_script.specs.declared.form.Form.TheVariants.{Plain, Minus, Plus, Die}
+use Rattle.uv_script.specs.declared.form.Form.TheVariants.{Plain, Minus, Plus, Die, Data}
 use Rattle.uv_script.specs.declared.form.Line.{Line}
 use Rattle.uv_script.specs.declared.form.Mode.{Mode}
 
@@ -13,6 +13,7 @@ actor_of (Plain actor deed) = actor
 actor_of (Minus actor deed) = actor
 actor_of (Plus actor) = actor
 actor_of (Die client) = client
+actor_of (Data client call) = client
 
 -- a line is of none of these
 abbrev pub IsOfOthers : List ℕ → Line → Type 0

@@ -1,8 +1,10 @@
 -- The words for objects.
-use Rattle.std.specs.Prelude.{ℕ, nat_eq, nat_le, List, drop, codes, Option, Some, None, if◌then◌else◌, option_and_then}
+use Rattle.std.specs.Prelude.{ℕ, Bool, ◌==◌, nat_eq, nat_le, List, drop, codes, Option, Some, None, if◌then◌else◌, option_and_then}
 use Rattle.std.specs.Option.{option_map}
 use Rattle.std.specs.List.{starts_with}
 use Rattle.std.specs.Cmp.Lexicographic.{pointwise}
+use Rattle.uv_num.specs.Kind.{kind_place}
+use Rattle.uv_num.specs.declared.kind.Kind.{Kind}
 use Rattle.uv_num.specs.declared.limits.TheConstants.{MOST_HANDLE}
 use Rattle.uv_script.specs.Numbers.{number_of}
 use Rattle.uv_script.specs.Names.{Look}
@@ -27,3 +29,15 @@ handle_word look word =
 -- the same, or `-` for none
 abbrev pub may_handle_word : Look → List ℕ → Option (Option Handle)
 may_handle_word look word = if pointwise nat_eq word (codes "-") then Some None else option_map Some (handle_word look word)
+
+-- The words for objects of a kind: names alone.
+
+abbrev pub is_of_kind : Kind → Known → Bool
+is_of_kind kind known = kind_place known.kind == kind_place kind
+
+abbrev pub line_of : Kind → Known → Option ℕ
+line_of kind known = if is_of_kind kind known then Some known.line else None
+
+-- the line that declares a name, where the name is of this kind
+abbrev pub object_word : Look → Kind → List ℕ → Option ℕ
+object_word look kind word = option_and_then (line_of kind) (look word)

@@ -2,6 +2,8 @@ pub mod Above
 pub mod Before
 pub mod Built
 pub mod Bytes
+pub mod DataCalls
+pub mod DataVerbs
 pub mod Deaths
 pub mod Deeds
 pub mod Handles

@@ -2,14 +2,18 @@
 use Rattle.std.specs.Prelude.{ℕ, ◌==◌, Bool, nat_lt, not, List, [], ◌∷◌, slice_index, Option, Some, None, if◌then◌else◌, option_and_then}
 use Rattle.uv_num.specs.declared.limits.TheConstants.{SCRIPT_LINES}
 use Rattle.uv_script.specs.Before.{Before, is_dead}
+use Rattle.uv_script.specs.DataCalls.{data_call_of}
+use Rattle.uv_script.specs.DataVerbs.{data_verb}
 use Rattle.uv_script.specs.Deeds.{Stated, deed_of}
 use Rattle.uv_script.specs.Heads.{head_word}
 use Rattle.uv_script.specs.Lines.{text_of, is_plain_text}
 use Rattle.uv_script.specs.Names.{Naming}
 use Rattle.uv_script.specs.Places.{client_word}
 use Rattle.uv_script.specs.Words.{words_of, only_of}
+use Rattle.uv_script.specs.declared.data_verbs.DataWord.{DataWord}
+use Rattle.uv_script.specs.declared.form.DataCall.{DataCall}
 use Rattle.uv_script.specs.declared.form.Form.{Form}
-use Rattle.uv_script.specs.declared.form.Form.TheVariants.{Plain, Minus, Plus, Die}
+use Rattle.uv_script.specs.declared.form.Form.TheVariants.{Plain, Minus, Plus, Die, Data}
 use Rattle.uv_script.specs.declared.heads.Head.{Head}
 use Rattle.uv_script.specs.declared.heads.Head.TheVariants as head
 
@@ -23,6 +27,16 @@ pub data Reading : Type 0 where
 abbrev pub says_plain : ℕ → Option Stated → Reading
 says_plain actor None = Outside
 says_plain actor (Some stated) = Says (Plain actor stated.deed) stated.naming
+
+-- `C ..`: a call of the data path
+abbrev pub says_data : ℕ → Option DataCall → Reading
+says_data client None = Outside
+says_data client (Some call) = Says (Data client call) None
+
+-- after an actor a deed, or after a client a verb of the data path
+abbrev pub plain_reading : Before → ℕ → List (List ℕ) → Option (DataWord × List (List ℕ)) → Reading
+plain_reading before actor words None = says_plain actor (deed_of before actor words)
+plain_reading before actor words (Some taken) = says_data actor (data_call_of before actor taken.0 taken.1)
 
 -- `A- ..`: only begun
 abbrev pub says_minus : ℕ → Option Stated → Reading
@@ -45,7 +59,7 @@ says_die before (Some client) = living before client (Die client)
 
 -- what stands after each head
 abbrev pub head_reading : Before → Head → List (List ℕ) → Reading
-head_reading before (head.Plain actor) words = says_plain actor (deed_of before actor words)
+head_reading before (head.Plain actor) words = plain_reading before actor words (data_verb actor words)
 head_reading before (head.Minus actor) words = says_minus actor (deed_of before actor words)
 head_reading before (head.Plus actor) words = says_plus before actor words
 head_reading before head.Die words = says_die before (option_and_then client_word (only_of words))

@@ -5,7 +5,7 @@ use Rattle.uv_script.specs.Lines.{lines_of}
 use Rattle.uv_script.specs.Names.{with_naming}
 use Rattle.uv_script.specs.Reading.{Reading, Outside, Nothing, Says, reading_of}
 use Rattle.uv_script.specs.declared.form.Form.{Form}
-use Rattle.uv_script.specs.declared.form.Form.TheVariants.{Plain, Minus, Plus, Die}
+use Rattle.uv_script.specs.declared.form.Form.TheVariants.{Plain, Minus, Plus, Die, Data}
 use Rattle.uv_script.specs.declared.form.Line.{Line}
 use Rattle.uv_script.specs.declared.form.Mode.{Mode}
 use Rattle.uv_script.specs.declared.form.Mode.TheVariants.{Steps}
@@ -32,6 +32,7 @@ dying (Plain actor deed) = []
 dying (Minus actor deed) = []
 dying (Plus actor) = []
 dying (Die client) = client ∷ []
+dying (Data client call) = []
 
 -- what stands before the next line
 abbrev pub after_line : Before → Reading → Before

@@ -1,13 +1,15 @@
 //! What is wrong with a line that is outside the language.
 
 ghost use Rattle.std.specs.Prelude.{◌≡◌, IfOk};
-ghost use Rattle.uv_script.specs.Amiss.{operands_left, name_amiss, after_amiss, raw_amiss, built_amiss, verb_amiss, unknown_verb, verbs_amiss, client_amiss, driver_amiss, deed_amiss, living_amiss, plus_amiss, client_dies, die_amiss, head_amiss, unknown_head, words_amiss, text_amiss, line_amiss, then_amiss, amiss_of};
+ghost use Rattle.uv_script.specs.Amiss.{operands_left, name_amiss, after_amiss, raw_amiss, built_amiss, verb_amiss, unknown_verb, verbs_amiss, client_amiss, driver_amiss, deed_amiss, data_amiss, data_call_amiss, plain_amiss, living_amiss, plus_amiss, client_dies, die_amiss, head_amiss, unknown_head, words_amiss, text_amiss, line_amiss, then_amiss, amiss_of};
 ghost use Rattle.uv_script.specs.AmissKept.{amiss_seen, amiss_line_seen, left_seen};
+ghost use Rattle.uv_script.specs.DataVerbs.{data_verb};
 ghost use Rattle.uv_script.specs.Kept.{look_kept, before_in};
 ghost use Rattle.uv_script.specs.Places.{client_word};
 ghost use Rattle.uv_script.specs.Words.{words_of};
 
 use crate::context::Context;
+use crate::data_verbs::{DataWord, data_verb};
 use crate::heads::{Head, head_in};
 use crate::names::{Names, is_name};
 use crate::parsing::put_read;
@@ -18,8 +20,8 @@ use crate::verbs::{VerbWord, kind_made, verb};
 use crate::words::next_word;
 use crate::wrong::{Amiss, AmissLine, Operand, Wrong};
 use crate::wrong_words::{
-    bytes_are_built, is_later_deed, is_later_head, is_later_verb, is_operand, verb_takes,
-    word_wrong,
+    bytes_are_built, data_takes, is_later_deed, is_later_head, is_later_verb, is_operand,
+    verb_takes, word_wrong,
 };
 use std::alloc::{AllocError, Global};
 use uv_num::{DRIVER, Kind, List, SCRIPT_LINES};
@@ -40,7 +42,7 @@ fn operands_left<'a>(
             return Ok(Err(Amiss { word: &[], wrong }));
         };
         if !is_operand(alloc, names, *operand, word)? {
-            let wrong = word_wrong(*operand, word);
+            let wrong = word_wrong(names, *operand, word);
             return Ok(Err(Amiss { word, wrong }));
         }
         rest = others;
@@ -228,6 +230,54 @@ fn deed_amiss<'a>(
     }
 }
 
+/// What stands after a verb of the data path.
+fn data_amiss<'a>(
+    alloc: Global,
+    names: &Names<'_>,
+    verb: DataWord,
+    text: &'a [u8],
+) -> Result<Option<Amiss<'a>>, AllocError>
+    ensures { IfOk result (λ told. amiss_seen told ≡ data_amiss (look_kept names.now) verb (words_of text.now)) }
+{
+    match operands_left(alloc, names, data_takes(verb), text)? {
+        Err(amiss) => Ok(Some(amiss)),
+        Ok(rest) => Ok(after_amiss(names, None, rest)),
+    }
+}
+
+fn data_call_amiss<'a>(
+    alloc: Global,
+    context: &Context<'_>,
+    word: &'a [u8],
+    client: u32,
+    verb: DataWord,
+    text: &'a [u8],
+) -> Result<Option<Amiss<'a>>, AllocError>
+    ensures { IfOk result (λ told. amiss_seen told ≡ data_call_amiss (before_in context.now) word.now client verb (words_of text.now)) }
+{
+    if context.is_dead(client) {
+        let wrong = Wrong::Dead;
+        return Ok(Some(Amiss { word, wrong }));
+    }
+    data_amiss(alloc, &context.names, verb, text)
+}
+
+/// What stands after an actor that does something to its end.
+fn plain_amiss<'a>(
+    alloc: Global,
+    context: &Context<'_>,
+    word: &'a [u8],
+    actor: u32,
+    text: &'a [u8],
+) -> Result<Option<Amiss<'a>>, AllocError>
+    ensures { IfOk result (λ told. amiss_seen told ≡ plain_amiss (before_in context.now) word.now actor (words_of text.now) (data_verb actor (words_of text.now))) }
+{
+    match data_verb(actor, text) {
+        None => deed_amiss(alloc, context, word, actor, text),
+        Some((verb, rest)) => data_call_amiss(alloc, context, word, actor, verb, rest),
+    }
+}
+
 fn living_amiss<'a>(context: &Context<'_>, word: &'a [u8], actor: u32) -> Option<Amiss<'a>>
     ensures { amiss_seen result ≡ living_amiss (before_in context.now) word.now actor }
 {
@@ -295,7 +345,7 @@ fn head_amiss<'a>(
     ensures { IfOk result (λ told. amiss_seen told ≡ head_amiss (before_in context.now) word.now head (words_of text.now)) }
 {
     match head {
-        Head::Plain(actor) => deed_amiss(alloc, context, word, actor, text),
+        Head::Plain(actor) => plain_amiss(alloc, context, word, actor, text),
         Head::Minus(actor) => deed_amiss(alloc, context, word, actor, text),
         Head::Plus(actor) => Ok(plus_amiss(context, word, actor, text)),
         Head::Die => Ok(die_amiss(context, text)),

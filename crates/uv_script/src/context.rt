@@ -45,8 +45,8 @@ impl<'a> Context<'a> {
 pub(crate) fn put_dying(dead: &mut List<u32>, form: &Form) -> Result<(), AllocError>
     ensures { OnOk result (dead.new ≡ dead.old ++ dying form.now) }
 {
-    match *form {
-        Form::Plain { .. } | Form::Minus { .. } | Form::Plus { .. } => Ok(()),
-        Form::Die { client } => dead.push(client),
+    match form {
+        Form::Plain { .. } | Form::Minus { .. } | Form::Plus { .. } | Form::Data { .. } => Ok(()),
+        Form::Die { client } => dead.push(*client),
     }
 }

@@ -134,6 +134,30 @@ pub enum Deed {
     },
 }
 
+/// A call of the data path, which makes no entry of the history. Objects are named by the lines of their creates, numbered from 1.
+#[derive(Debug, Drop, PartialEq)]
+pub enum DataCall {
+    /// Polls a completion queue.
+    Poll {
+        /// The completion queue.
+        cq: u32,
+        /// The most completions that are taken, 1 to 64.
+        count: u32,
+    },
+    /// Asks a completion queue for an event.
+    Arm {
+        /// The completion queue.
+        cq: u32,
+        /// Whether for the next solicited completion alone.
+        solicited: bool,
+    },
+    /// Takes the oldest event of a channel.
+    Event {
+        /// The channel.
+        channel: u32,
+    },
+}
+
 /// What a line asks for. Actors are the clients, 1 to 8, and the driver, 9.
 #[derive(Debug, Drop, PartialEq)]
 pub enum Form {
@@ -160,6 +184,13 @@ pub enum Form {
     Die {
         /// The client.
         client: u32,
+    },
+    /// `C ..`: the client makes a call of the data path.
+    Data {
+        /// The client.
+        client: u32,
+        /// The call.
+        call: DataCall,
     },
 }
 

@@ -2,14 +2,14 @@
 
 ghost use Rattle.std.specs.Prelude.{◌≡◌, option_and_then};
 ghost use Rattle.std.specs.Option.{option_map};
-ghost use Rattle.uv_script.specs.Handles.{handle_word, may_handle_word, named_handle, as_handle};
+ghost use Rattle.uv_script.specs.Handles.{handle_word, may_handle_word, named_handle, as_handle, is_of_kind, line_of, object_word};
 ghost use Rattle.uv_script.specs.Kept.{look_kept};
 ghost use Rattle.uv_script.specs.Numbers.{number_of};
 
 use crate::Handle;
-use crate::names::Names;
+use crate::names::{Known, Names};
 use crate::numbers::number;
-use uv_num::MOST_HANDLE;
+use uv_num::{Kind, MOST_HANDLE};
 
 /// The object that a word names: `#` and a handle below 2^32, or a name that is declared, of any kind.
 pub(crate) fn handle(names: &Names<'_>, word: &[u8]) -> Option<Handle>
@@ -53,4 +53,27 @@ pub(crate) fn may_handle(names: &Names<'_>, word: &[u8]) -> Option<Option<Handle
     } else {
         Some(Some(handle(names, word)?))
     }
+}
+
+/// The line that declares the name that a word is, where the name is of this kind.
+pub(crate) fn object(names: &Names<'_>, kind: Kind, word: &[u8]) -> Option<u32>
+    ensures { result ≡ object_word (look_kept names.now) kind word.now }
+{
+    line_of(kind, names.get(word)?)
+}
+
+fn line_of(kind: Kind, known: Known) -> Option<u32>
+    ensures { result ≡ line_of kind known }
+{
+    if is_of_kind(kind, known) {
+        Some(known.line)
+    } else {
+        None
+    }
+}
+
+fn is_of_kind(kind: Kind, known: Known) -> bool
+    ensures { result ≡ is_of_kind kind known }
+{
+    known.kind.place() == kind.place()
 }

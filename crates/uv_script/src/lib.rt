@@ -11,6 +11,8 @@ mod amiss_laws;
 mod built;
 mod bytes;
 mod context;
+mod data_calls;
+mod data_verbs;
 mod deeds;
 mod form;
 mod handles;
@@ -33,7 +35,7 @@ mod wrong_words;
 
 pub use amiss::first_amiss;
 pub use amiss_laws::{line_is_amiss, script_is_amiss};
-pub use form::{Deed, Form, Handle, Line, Mode, ScriptFault, Verb};
+pub use form::{DataCall, Deed, Form, Handle, Line, Mode, ScriptFault, Verb};
 pub use laws::{lines_join, names_stand_for_lines_above, the_dead_are_silent};
 pub use parsing::parse;
 pub use script::Script;

@@ -2,18 +2,21 @@
 
 ghost use Rattle.std.specs.Prelude.{◌≡◌, IfOk, option_and_then};
 ghost use Rattle.uv_script.specs.Kept.{before_in, stated_seen, seen};
+ghost use Rattle.uv_script.specs.DataVerbs.{data_verb};
 ghost use Rattle.uv_script.specs.Places.{client_word};
-ghost use Rattle.uv_script.specs.Reading.{says_plain, says_minus, living, says_plus, says_die, head_reading, words_reading, is_remark, text_reading, reading_of};
+ghost use Rattle.uv_script.specs.Reading.{says_plain, says_data, plain_reading, says_minus, living, says_plus, says_die, head_reading, words_reading, is_remark, text_reading, reading_of};
 ghost use Rattle.uv_script.specs.Words.{words_of, only_of};
 
-use crate::Form;
 use crate::context::Context;
+use crate::data_calls::data_call_of;
+use crate::data_verbs::data_verb;
 use crate::deeds::{Stated, deed_of};
 use crate::heads::{Head, head_in};
 use crate::names::Naming;
 use crate::places::client;
 use crate::splits::{is_plain_text, text_of};
 use crate::words::{next_word, only_word};
+use crate::{DataCall, Form};
 use std::alloc::{AllocError, Global};
 use uv_num::SCRIPT_LINES;
 
@@ -93,16 +96,41 @@ fn read_head<'a>(
     ensures { IfOk result (λ read. seen read ≡ head_reading (before_in context.now) head (words_of text.now)) }
 {
     match head {
-        Head::Plain(actor) => {
-            let told = deed_of(alloc, context, actor, text)?;
-            Ok(plain(actor, told))
-        }
+        Head::Plain(actor) => read_plain(alloc, context, actor, text),
         Head::Minus(actor) => {
             let told = deed_of(alloc, context, actor, text)?;
             Ok(minus(actor, told))
         }
         Head::Plus(actor) => Ok(plus(context, actor, text)),
         Head::Die => Ok(die(context, text)),
+    }
+}
+
+/// What stands after an actor: a deed, or after a client a verb of the data path.
+fn read_plain<'a>(
+    alloc: Global,
+    context: &Context<'_>,
+    actor: u32,
+    text: &'a [u8],
+) -> Result<Read<'a>, AllocError>
+    ensures { IfOk result (λ read. seen read ≡ plain_reading (before_in context.now) actor (words_of text.now) (data_verb actor (words_of text.now))) }
+{
+    match data_verb(actor, text) {
+        None => {
+            let told = deed_of(alloc, context, actor, text)?;
+            Ok(plain(actor, told))
+        }
+        Some((verb, rest)) => Ok(says_data(actor, data_call_of(context, actor, verb, rest))),
+    }
+}
+
+/// `C ..`: a call of the data path.
+fn says_data<'a>(client: u32, call: Option<DataCall>) -> Read<'a>
+    ensures { seen result ≡ says_data client call }
+{
+    match call {
+        None => Read::Outside,
+        Some(call) => Read::Says(Form::Data { client, call }, None),
     }
 }
 

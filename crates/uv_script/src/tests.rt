@@ -1,7 +1,7 @@
 //! Scripts and what they are read as.
 
 use crate::numbers::number;
-use crate::{Deed, Form, Handle, Mode, Script, ScriptFault, Verb, parse};
+use crate::{DataCall, Deed, Form, Handle, Mode, Script, ScriptFault, Verb, parse};
 use std::alloc::{AllocError, Global};
 use std::process::Abort;
 use std::test::Fail;
@@ -79,7 +79,7 @@ fn lines_keep_their_numbers_and_heads(rt: HostRuntime) -> Result<(), Fail> {
 fn deed_in(form: &Form) -> Option<Deed> {
     match *form {
         Form::Plain { deed, .. } | Form::Minus { deed, .. } => Some(deed),
-        Form::Plus { .. } | Form::Die { .. } => None,
+        Form::Plus { .. } | Form::Die { .. } | Form::Data { .. } => None,
     }
 }
 
@@ -198,6 +198,82 @@ fn calls_have_their_operands(rt: HostRuntime) -> Result<(), Fail> {
             Some(*want),
             "at {place}"
         );
+    }
+    Ok(())
+}
+
+/// What the names of the rows of `DATA` stand for.
+const OBJECTS: &str = "c1 f5 create_channel as h
+c1 f5 create_cq 8 h as k
+c1 f5 alloc_pd as p
+c1 f5 reg_mr p 64 1 as m
+die c8
+";
+
+/// Lines of the data path, after the five above.
+const DATA: [(&str, u32); 26] = [
+    ("c1 poll k 1", 0),
+    ("c7 poll k 64", 0),
+    ("c1 poll k 0x40", 0),
+    ("c1 poll k 0", 6),
+    ("c1 poll k 65", 6),
+    ("c1 poll k 4294967297", 6),
+    ("c1 poll k", 6),
+    ("c1 poll k 1 1", 6),
+    ("c1 poll k 1 as p", 6),
+    ("c1 poll #0 1", 6),
+    ("c1 poll - 1", 6),
+    ("c1 poll h 1", 6),
+    ("c1 poll p 1", 6),
+    ("c1 poll q 1", 6),
+    ("c1 f5 poll k 1", 6),
+    ("c1- poll k 1", 6),
+    ("c1+ poll k 1", 6),
+    ("c8 poll k 1", 6),
+    ("drv poll k 1", 6),
+    ("c1 arm k all", 0),
+    ("c1 arm k sol", 0),
+    ("c1 arm k any", 6),
+    ("c1 arm h all", 6),
+    ("c1 event h", 0),
+    ("c1 event k", 6),
+    ("c1 event", 6),
+];
+
+#[test]
+fn lines_of_the_data_path(rt: HostRuntime) -> Result<(), Fail> {
+    for (line, number) in DATA.iter() {
+        let mut text = Vec::from_slice(rt.alloc(), OBJECTS.as_bytes())?;
+        text.extend_from_slice(line.as_bytes())?;
+        assert_eq!(rt; fault(rt.alloc(), &text), *number, "of {line}");
+    }
+    let text =
+        "c1 f5 create_channel as h\nc1 f5 create_cq 8 h as k\nc3 poll k 7\nc1 arm k sol\nc2 event h\n";
+    let want = [
+        (3, DataCall::Poll { cq: 2, count: 7 }),
+        (
+            1,
+            DataCall::Arm {
+                cq: 2,
+                solicited: true,
+            },
+        ),
+        (2, DataCall::Event { channel: 1 }),
+    ];
+    let script = script(rt.alloc(), text)?;
+    for (place, (client, call)) in want.iter().enumerate() {
+        match &script.line(place as u32 + 2).form {
+            Form::Data {
+                client: found,
+                call: made,
+            } => {
+                assert_eq!(rt; *found, *client);
+                assert_eq!(rt; *made, *call);
+            }
+            Form::Plain { .. } | Form::Minus { .. } | Form::Plus { .. } | Form::Die { .. } => {
+                assert!(rt; false);
+            }
+        }
     }
     Ok(())
 }

@@ -1,7 +1,9 @@
 //! Why a line is outside the language.
 
 ghost use Rattle.std.specs.Prelude.{◌≡◌};
-ghost use Rattle.uv_script.specs.WrongTexts.{missing_text, unread_text, wrong_text};
+ghost use Rattle.uv_script.specs.WrongTexts.{missing_object, unread_object, missing_text, unread_text, wrong_text};
+
+use uv_num::Kind;
 
 /// What stands at a place of a line, by its place after a head, a file or a verb.
 #[derive(Clone, Copy, Debug, PartialEq, Eq)]
@@ -20,6 +22,12 @@ pub enum Operand {
     Service,
     /// HEX: two hexadecimal digits for each byte.
     Bytes,
+    /// The name of an object of this kind.
+    Object(Kind),
+    /// NUM: how many completions a poll takes at most, 1 to 64.
+    Count,
+    /// `all` or `sol`.
+    Solicited,
 }
 
 /// Why a line is outside the language: what the reading finds at the word at which it stops, or what it wants there.
@@ -83,6 +91,36 @@ pub struct AmissLine<'a> {
     pub amiss: Amiss<'a>,
 }
 
+fn missing_object(kind: Kind) -> &'static str
+    ensures { result.now ≡ missing_object kind }
+{
+    match kind {
+        Kind::Pd => "a domain's name is missing",
+        Kind::Channel => "a channel's name is missing",
+        Kind::Cq => "a completion queue's name is missing",
+        Kind::Qp => "a queue pair's name is missing",
+        Kind::Srq => "a shared receive queue's name is missing",
+        Kind::Ah => "an address handle's name is missing",
+        Kind::Mr => "a region's name is missing",
+        Kind::Mw => "a window's name is missing",
+    }
+}
+
+fn unread_object(kind: Kind) -> &'static str
+    ensures { result.now ≡ unread_object kind }
+{
+    match kind {
+        Kind::Pd => "isn't a domain's name",
+        Kind::Channel => "isn't a channel's name",
+        Kind::Cq => "isn't a completion queue's name",
+        Kind::Qp => "isn't a queue pair's name",
+        Kind::Srq => "isn't a shared receive queue's name",
+        Kind::Ah => "isn't an address handle's name",
+        Kind::Mr => "isn't a region's name",
+        Kind::Mw => "isn't a window's name",
+    }
+}
+
 fn missing_text(operand: Operand) -> &'static str
     ensures { result.now ≡ missing_text operand }
 {
@@ -94,6 +132,9 @@ fn missing_text(operand: Operand) -> &'static str
         Operand::Number => "a number is missing",
         Operand::Service => "a service is missing",
         Operand::Bytes => "bytes are missing",
+        Operand::Object(kind) => missing_object(kind),
+        Operand::Count => "a count is missing",
+        Operand::Solicited => "all or sol is missing",
     }
 }
 
@@ -107,6 +148,9 @@ fn unread_text(operand: Operand) -> &'static str
         Operand::Number => "isn't a number",
         Operand::Service => "isn't a service",
         Operand::Bytes => "isn't bytes",
+        Operand::Object(kind) => unread_object(kind),
+        Operand::Count => "isn't a count of 1 to 64",
+        Operand::Solicited => "isn't all or sol",
     }
 }
 

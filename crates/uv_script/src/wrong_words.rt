@@ -1,13 +1,15 @@
 //! Why a word isn't what stands at its place, and what stands at the places of a verb.
 
 ghost use Rattle.std.specs.Prelude.{◌≡◌, IfOk};
-ghost use Rattle.uv_script.specs.Amiss.{digits_wrong, number_wrong, numbered_wrong, named_wrong, handle_wrong, word_wrong, create_takes, verb_takes, is_operand, is_built, bytes_are_built, is_later_verb, is_later_deed, is_later_head};
+ghost use Rattle.uv_script.specs.Amiss.{digits_wrong, number_wrong, numbered_wrong, named_wrong, handle_wrong, object_wrong, count_wrong, word_wrong, create_takes, verb_takes, data_takes, is_operand, is_built, bytes_are_built, is_later_verb, is_later_deed, is_later_head};
 ghost use Rattle.uv_script.specs.Bytes.{spelled_bytes};
 ghost use Rattle.uv_script.specs.Kept.{look_kept};
 
 use crate::built::verb_for;
 use crate::bytes::bytes_in;
-use crate::handles::{handle, may_handle};
+use crate::data_calls::{count, solicited};
+use crate::data_verbs::DataWord;
+use crate::handles::{handle, may_handle, object};
 use crate::names::{Names, is_name};
 use crate::numbers::{are_digits, number, starts_bare};
 use crate::operands::service;
@@ -68,14 +70,37 @@ fn handle_wrong(word: &[u8]) -> Wrong
     }
 }
 
+fn object_wrong(names: &Names<'_>, kind: Kind, word: &[u8]) -> Wrong
+    ensures { result ≡ object_wrong (look_kept names.now) kind word.now }
+{
+    if is_name(word) && names.get(word).is_none() {
+        Wrong::Undeclared
+    } else {
+        Wrong::NotA(Operand::Object(kind))
+    }
+}
+
+fn count_wrong(word: &[u8]) -> Wrong
+    ensures { result ≡ count_wrong word.now }
+{
+    if number(word).is_none() {
+        number_wrong(word)
+    } else {
+        Wrong::NotA(Operand::Count)
+    }
+}
+
 /// Why a word that isn't this operand isn't it.
-pub(crate) fn word_wrong(operand: Operand, word: &[u8]) -> Wrong
-    ensures { result ≡ word_wrong operand word.now }
+pub(crate) fn word_wrong(names: &Names<'_>, operand: Operand, word: &[u8]) -> Wrong
+    ensures { result ≡ word_wrong (look_kept names.now) operand word.now }
 {
     match operand {
-        Operand::File | Operand::Device | Operand::Service | Operand::Bytes => Wrong::NotA(operand),
+        Operand::File | Operand::Device | Operand::Service | Operand::Bytes | Operand::Solicited =>
+            Wrong::NotA(operand),
         Operand::Handle | Operand::MayHandle => handle_wrong(word),
         Operand::Number => number_wrong(word),
+        Operand::Object(kind) => object_wrong(names, kind, word),
+        Operand::Count => count_wrong(word),
     }
 }
 
@@ -121,6 +146,17 @@ pub(crate) fn verb_takes(verb: VerbWord) -> &'static [Operand]
     }
 }
 
+/// The operands of a call of the data path, by their places.
+pub(crate) fn data_takes(verb: DataWord) -> &'static [Operand]
+    ensures { result.now ≡ data_takes verb }
+{
+    match verb {
+        DataWord::Poll => &[Operand::Object(Kind::Cq), Operand::Count],
+        DataWord::Arm => &[Operand::Object(Kind::Cq), Operand::Solicited],
+        DataWord::Event => &[Operand::Object(Kind::Channel)],
+    }
+}
+
 /// Whether a word is this operand. Only bytes take memory.
 pub(crate) fn is_operand(
     alloc: Global,
@@ -141,6 +177,9 @@ pub(crate) fn is_operand(
             let bytes = bytes_in(alloc, word)?;
             Ok(bytes.is_some())
         }
+        Operand::Object(kind) => Ok(object(names, kind, word).is_some()),
+        Operand::Count => Ok(count(word).is_some()),
+        Operand::Solicited => Ok(solicited(word).is_some()),
     }
 }
 
@@ -180,9 +219,6 @@ pub(crate) fn is_later_deed(word: &[u8]) -> bool
     word == b"post_send".as_slice()
         || word == b"post_recv".as_slice()
         || word == b"post_srq".as_slice()
-        || word == b"poll".as_slice()
-        || word == b"arm".as_slice()
-        || word == b"event".as_slice()
         || word == b"poke".as_slice()
         || word == b"peek".as_slice()
 }

@@ -32,7 +32,21 @@ fn the_first_line_outside_is_told(rt: HostRuntime) -> Result<(), Fail> {
         ),
         ("die c1\nc1+", 2, "c1+", Wrong::Dead),
         ("c1 f0 query_qp #0", 1, "query_qp", Wrong::NotBuilt),
-        ("c1 poll k 4", 1, "poll", Wrong::NotBuilt),
+        ("c1 post_send q 1", 1, "post_send", Wrong::NotBuilt),
+        (
+            "c1 f0 create_channel as h\nc1 poll h 1",
+            2,
+            "h",
+            Wrong::NotA(Operand::Object(Kind::Cq)),
+        ),
+        ("c1 event h", 1, "h", Wrong::Undeclared),
+        (
+            "c1 f0 create_cq 8 - as k\nc1 poll k 65",
+            2,
+            "65",
+            Wrong::NotA(Operand::Count),
+        ),
+        ("c1- poll k 1", 1, "poll", Wrong::NotA(Operand::File)),
         ("settle", 1, "settle", Wrong::NotBuilt),
         ("drv close", 1, "close", Wrong::Unplug),
     ];
