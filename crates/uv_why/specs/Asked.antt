@@ -4,7 +4,7 @@ use Rattle.uv_schema.specs.declared.rule.CommandRule.{CommandRule}
 use Rattle.uv_schema.specs.RuleNames.{command_errno}
 use Rattle.uv_script.specs.declared.form.Deed.{Deed}
 use Rattle.uv_script.specs.declared.form.Form.{Form}
-use Rattle.uv_script.specs.declared.form.Form.TheVariants.{Plain, Minus, Plus, Die}
+use Rattle.uv_script.specs.declared.form.Form.TheVariants.{Plain, Minus, Plus, Die, Data}
 use Rattle.uv_run.specs.Asking.{task_of}
 use Rattle.uv_run.specs.declared.reply.Reply.{Reply}
 
@@ -17,3 +17,4 @@ IsFormRefusedBy (Plain actor deed) rule = IsDeedRefusedBy deed rule
 IsFormRefusedBy (Minus actor deed) rule = IsDeedRefusedBy deed rule
 IsFormRefusedBy (Plus actor) rule = ⊥
 IsFormRefusedBy (Die client) rule = ⊥
+IsFormRefusedBy (Data client call) rule = ⊥

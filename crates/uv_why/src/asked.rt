@@ -117,8 +117,8 @@ pub fn asked_rule(
 ) -> Result<Option<CommandRule>, AllocError>
     ensures { IfOk result (λ told. IfSome told (IsFormRefusedBy form.now)) }
 {
-    match *form {
-        Form::Plain { deed, .. } | Form::Minus { deed, .. } => deed_rule(alloc, deed, words),
-        Form::Plus { .. } | Form::Die { .. } => Ok(None),
+    match form {
+        Form::Plain { deed, .. } | Form::Minus { deed, .. } => deed_rule(alloc, *deed, words),
+        Form::Plus { .. } | Form::Die { .. } | Form::Data { .. } => Ok(None),
     }
 }
