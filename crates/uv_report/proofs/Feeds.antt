@@ -19,11 +19,17 @@ use Rattle.uv_model.specs.Gone.{gone_of}
 use Rattle.uv_report.specs.declared.record.Said.{Said}
 use Rattle.uv_machine.specs.declared.entry.Word.{Word}
 use Rattle.uv_machine.specs.declared.entry.Word.TheVariants as step
+use Rattle.uv_wr.specs.declared.completion.Completion.{Completion}
+use Rattle.uv_wr.specs.declared.completion.Status.{Status}
+use Rattle.uv_wr.specs.declared.completion.Status.TheVariants as status
+use Rattle.uv_wr.specs.declared.completion.What.{What}
+use Rattle.uv_wr.specs.declared.completion.What.TheVariants as what
+use Rattle.uv_wr.specs.Statuses.{status_name, what_name}
 use Rattle.uv_report.specs.declared.saying.Tearer.{Tearer}
 use Rattle.uv_report.specs.declared.saying.Tearer.TheVariants.{Client, Driver}
 use Rattle.uv_report.specs.declared.saying.Saying.{Saying}
 use Rattle.uv_report.specs.declared.saying.Saying.TheVariants as saying
-use Rattle.uv_report.specs.Report.{key_text, state_name, step_name, refusal_text, tearer_text, file_text, object_text, saying_text, said_line, left_line, gone_line}
+use Rattle.uv_report.specs.Report.{completion_text, immediate_text, key_text, overrun_text, state_name, step_name, refusal_text, tearer_text, file_text, object_text, work_text, saying_text, said_line, left_line, gone_line}
 use Rattle.uv_report.specs.Laws.{ReportIsItsLines}
 
 -- A text without a line feed.
@@ -132,6 +138,47 @@ inside_object : (x : Left) → IsInside (object_text x)
 inside_object x =
     join _ _ (join _ _ (join _ _ (join _ _ (inside_file x.file) (said (codes " ") refl)) (inside_kind x.kind)) (said (codes " ") refl)) (number 10 x.handle)
 
+inside_status : (s : Status) → IsInside (status_name s)
+inside_status status.Success = said _ refl
+inside_status status.LocLenErr = said _ refl
+inside_status status.LocProtErr = said _ refl
+inside_status status.WrFlushErr = said _ refl
+inside_status status.RemInvReqErr = said _ refl
+inside_status status.RemAccessErr = said _ refl
+inside_status status.RemOpErr = said _ refl
+inside_status status.RetryExcErr = said _ refl
+inside_status status.RnrRetryExcErr = said _ refl
+
+inside_what : (w : What) → IsInside (what_name w)
+inside_what what.Send = said _ refl
+inside_what what.Write = said _ refl
+inside_what what.Read = said _ refl
+inside_what what.Ud = said _ refl
+inside_what what.Recv = said _ refl
+
+inside_overrun : (overrun : Bool) → IsInside (overrun_text overrun)
+inside_overrun true = said _ refl
+inside_overrun false = said _ refl
+
+inside_immediate : (imm : Option ℕ) → IsInside (immediate_text imm)
+inside_immediate None = said _ refl
+inside_immediate (Some imm) = join _ _ (said (codes " imm ") refl) (inside_key imm)
+
+-- one text after another, with a text between them
+between : (a b c : List ℕ) → IsInside a → list_all is_inside b ≡ true → IsInside c → IsInside (a ++ b ++ c)
+between a b c front mid last = join _ _ (join _ _ front (said b mid)) last
+
+inside_work : (c : Completion) → IsInside (work_text c)
+inside_work c = between _ (codes " ") _ (between _ (codes " ") _ (number 10 c.id) refl (inside_status c.status)) refl (inside_what c.what)
+
+inside_completion : (c : Completion) → IsInside (completion_text c)
+inside_completion c =
+    join _ _
+    (between _ (codes " qpn ") _
+    (between _ (codes " ") _ (join _ _ (said (codes "wc ") refl) (inside_work c)) refl
+    (number 10 c.length)) refl
+    (number 10 c.qpn)) (inside_immediate c.imm)
+
 inside_saying : (s : Saying) → IsInside (saying_text s)
 inside_saying saying.Ok = said _ refl
 inside_saying (saying.Handle handle) = join _ _ (said (codes "ok ") refl) (number 10 handle)
@@ -150,6 +197,11 @@ inside_saying (saying.Closed file) = join _ _ (said (codes "closed ") refl) (ins
 inside_saying (saying.NotYet calls) = join _ _ (said (codes "notyet ") refl) (number 10 calls)
 inside_saying (saying.TornBy tearer) = join _ _ (said (codes "notyet ") refl) (inside_tearer tearer)
 inside_saying saying.Idle = said _ refl
+inside_saying (saying.Polled taken overrun) = join _ _ (join _ _ (said (codes "ok ") refl) (number 10 taken)) (inside_overrun overrun)
+inside_saying (saying.Empty overrun) = join _ _ (said (codes "empty") refl) (inside_overrun overrun)
+inside_saying (saying.Completed completion) = inside_completion completion
+inside_saying (saying.EventOf cq) = join _ _ (said (codes "ok cq ") refl) (number 10 cq)
+inside_saying saying.Dead = said _ refl
 
 -- Lines.
 

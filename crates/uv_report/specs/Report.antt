@@ -1,5 +1,5 @@
 -- The texts of reports, as bytes.
-use Rattle.std.specs.Prelude.{ℕ, ◌-◌, false, replicate, List, [], ◌∷◌, ◌++◌, Option, None, Some, codes, flat_map, length}
+use Rattle.std.specs.Prelude.{ℕ, ◌-◌, Bool, true, false, replicate, List, [], ◌∷◌, ◌++◌, Option, None, Some, codes, flat_map, length}
 use Rattle.std.specs.Fmt.{decimal, digits}
 use Rattle.uv_num.specs.declared.errno.Errno.{Errno}
 use Rattle.uv_num.specs.declared.qp.QpState.{QpState}
@@ -12,6 +12,8 @@ use Rattle.uv_report.specs.declared.record.Said.{Said}
 use Rattle.uv_report.specs.declared.record.Record.{Record}
 use Rattle.uv_machine.specs.declared.entry.Word.{Word}
 use Rattle.uv_machine.specs.declared.entry.Word.TheVariants as step
+use Rattle.uv_wr.specs.declared.completion.Completion.{Completion}
+use Rattle.uv_wr.specs.Statuses.{status_name, what_name}
 use Rattle.uv_report.specs.declared.saying.Tearer.{Tearer}
 use Rattle.uv_report.specs.declared.saying.Tearer.TheVariants.{Client, Driver}
 use Rattle.uv_report.specs.declared.saying.Saying.{Saying}
@@ -21,7 +23,7 @@ use Rattle.uv_report.specs.declared.saying.Saying.TheVariants as saying
 abbrev pub eight_digits : List ℕ → List ℕ
 eight_digits ds = replicate (8 - length ds) 48 ++ ds
 
--- a key, in eight small hexadecimal digits
+-- a key or an immediate, in eight small hexadecimal digits
 abbrev pub key_text : ℕ → List ℕ
 key_text key = codes "0x" ++ eight_digits (digits 16 false key)
 
@@ -65,6 +67,24 @@ file_text file = codes "f" ++ decimal file
 abbrev pub object_text : Left → List ℕ
 object_text x = file_text x.file ++ codes " " ++ kind_name x.kind ++ codes " " ++ decimal x.handle
 
+-- after the answer of a poll: whether its completion queue has overrun
+abbrev pub overrun_text : Bool → List ℕ
+overrun_text true = codes " overrun"
+overrun_text false = []
+
+-- after a completion: its immediate, if it has one
+abbrev pub immediate_text : Option ℕ → List ℕ
+immediate_text None = []
+immediate_text (Some imm) = codes " imm " ++ key_text imm
+
+-- a work that was completed: its number, how it ended and what it was
+abbrev pub work_text : Completion → List ℕ
+work_text c = decimal c.id ++ codes " " ++ status_name c.status ++ codes " " ++ what_name c.what
+
+-- a completion: its work, its length, and the number of its queue pair
+abbrev pub completion_text : Completion → List ℕ
+completion_text c = codes "wc " ++ work_text c ++ codes " " ++ decimal c.length ++ codes " qpn " ++ decimal c.qpn ++ immediate_text c.imm
+
 -- what a line of a report tells
 abbrev pub saying_text : Saying → List ℕ
 saying_text saying.Ok = codes "ok"
@@ -84,6 +104,11 @@ saying_text (saying.Closed file) = codes "closed " ++ file_text file
 saying_text (saying.NotYet calls) = codes "notyet " ++ decimal calls
 saying_text (saying.TornBy tearer) = codes "notyet " ++ tearer_text tearer
 saying_text saying.Idle = codes "none"
+saying_text (saying.Polled taken overrun) = codes "ok " ++ decimal taken ++ overrun_text overrun
+saying_text (saying.Empty overrun) = codes "empty" ++ overrun_text overrun
+saying_text (saying.Completed completion) = completion_text completion
+saying_text (saying.EventOf cq) = codes "ok cq " ++ decimal cq
+saying_text saying.Dead = codes "dead"
 
 -- a text behind the number of its script line
 abbrev pub said_line : Said → List ℕ

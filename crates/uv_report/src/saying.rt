@@ -3,6 +3,7 @@
 use uv_machine::Word;
 use uv_model::Left;
 use uv_num::{Errno, QpState};
+use uv_wr::Completion;
 
 /// Who tears a file down.
 #[derive(Clone, Copy, Debug, PartialEq, Eq)]
@@ -70,4 +71,22 @@ pub enum Saying {
     TornBy(Tearer),
     /// Nothing is in flight.
     Idle,
+    /// A poll took so many completions, one at least.
+    Polled {
+        /// How many it took.
+        taken: u32,
+        /// Whether the completion queue has overrun.
+        overrun: bool,
+    },
+    /// A poll found no completion.
+    Empty {
+        /// Whether the completion queue has overrun.
+        overrun: bool,
+    },
+    /// A poll took this completion.
+    Completed(Completion),
+    /// The oldest event of a channel is that of the completion queue in this cell.
+    EventOf(u32),
+    /// What a call of the data path names isn't live.
+    Dead,
 }

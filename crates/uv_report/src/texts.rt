@@ -8,6 +8,7 @@ use std::fmt;
 use uv_machine::Word;
 use uv_model::Left;
 use uv_num::{Errno, QpState};
+use uv_wr::{Completion, Status, What};
 
 /// The word of a step, as reports print it.
 fn step_name(word: Word) -> &'static str
@@ -54,7 +55,7 @@ impl fmt::Display for Tearer {
     }
 }
 
-/// A key, in eight small hexadecimal digits.
+/// A key or an immediate, in eight small hexadecimal digits.
 #[derive(Drop)]
 struct Key(u32);
 
@@ -106,6 +107,110 @@ impl fmt::Display for Refusal {
     }
 }
 
+/// What stands after a poll's answer: nothing, or that its completion queue has overrun.
+#[derive(Drop)]
+struct Overrun(bool);
+
+impl fmt::Display for Overrun {
+    ghost use Rattle.uv_report.specs.Report.{overrun_text};
+
+    ghost output = { λ overrun. Some (overrun_text overrun.0) };
+
+    fn fmt<W: fmt::Write>(&self, f: &mut fmt::Formatter<W>) -> fmt::Result {
+        if self.0 {
+            f.write_str(" overrun")
+        } else {
+            Ok(())
+        }
+    }
+}
+
+/// What stands after a completion: nothing, or its immediate.
+#[derive(Drop)]
+struct Immediate(Option<u32>);
+
+impl fmt::Display for Immediate {
+    ghost use Rattle.uv_report.specs.Report.{immediate_text};
+
+    ghost output = { λ immediate. Some (immediate_text immediate.0) };
+
+    fn fmt<W: fmt::Write>(&self, f: &mut fmt::Formatter<W>) -> fmt::Result {
+        match self.0 {
+            Some(imm) => write!(f, " imm {}", Key(imm)),
+            None => Ok(()),
+        }
+    }
+}
+
+/// How a work ended.
+#[derive(Drop)]
+struct Ending(Status);
+
+impl fmt::Display for Ending {
+    ghost use Rattle.uv_wr.specs.Statuses.{status_name};
+
+    ghost output = { λ ending. Some (status_name ending.0) };
+
+    fn fmt<W: fmt::Write>(&self, f: &mut fmt::Formatter<W>) -> fmt::Result {
+        f.write_str(self.0.name())
+    }
+}
+
+/// What was completed.
+#[derive(Drop)]
+struct Sort(What);
+
+impl fmt::Display for Sort {
+    ghost use Rattle.uv_wr.specs.Statuses.{what_name};
+
+    ghost output = { λ sort. Some (what_name sort.0) };
+
+    fn fmt<W: fmt::Write>(&self, f: &mut fmt::Formatter<W>) -> fmt::Result {
+        f.write_str(self.0.name())
+    }
+}
+
+/// A work that was completed: its number, how it ended and what it was.
+#[derive(Drop)]
+struct Work(Completion);
+
+impl fmt::Display for Work {
+    ghost use Rattle.uv_report.specs.Report.{work_text};
+
+    ghost output = { λ work. Some (work_text work.0) };
+
+    fn fmt<W: fmt::Write>(&self, f: &mut fmt::Formatter<W>) -> fmt::Result {
+        write!(
+            f,
+            "{} {} {}",
+            self.0.id,
+            Ending(self.0.status),
+            Sort(self.0.what)
+        )
+    }
+}
+
+/// A completion: its work, its length, and the number of its queue pair.
+#[derive(Drop)]
+struct Told(Completion);
+
+impl fmt::Display for Told {
+    ghost use Rattle.uv_report.specs.Report.{completion_text};
+
+    ghost output = { λ told. Some (completion_text told.0) };
+
+    fn fmt<W: fmt::Write>(&self, f: &mut fmt::Formatter<W>) -> fmt::Result {
+        write!(
+            f,
+            "wc {} {} qpn {}{}",
+            Work(self.0),
+            self.0.length,
+            self.0.qpn,
+            Immediate(self.0.imm)
+        )
+    }
+}
+
 impl fmt::Display for Saying {
     ghost use Rattle.uv_report.specs.Report.{saying_text};
 
@@ -130,6 +235,11 @@ impl fmt::Display for Saying {
             Saying::NotYet(calls) => write!(f, "notyet {calls}"),
             Saying::TornBy(tearer) => write!(f, "notyet {tearer}"),
             Saying::Idle => f.write_str("none"),
+            Saying::Polled { taken, overrun } => write!(f, "ok {taken}{}", Overrun(overrun)),
+            Saying::Empty { overrun } => write!(f, "empty{}", Overrun(overrun)),
+            Saying::Completed(completion) => write!(f, "{}", Told(completion)),
+            Saying::EventOf(cq) => write!(f, "ok cq {cq}"),
+            Saying::Dead => f.write_str("dead"),
         }
     }
 }

@@ -131,3 +131,50 @@ fn teardowns_tell_files_objects_and_who_waits(rt: HostRuntime) -> Result<(), Fai
     expect_texts(&rt, rt.alloc(), &rows)?;
     Ok(())
 }
+
+fn completion(status: Status, what: What, imm: Option<u32>) -> Saying {
+    Saying::Completed(Completion {
+        id: 18_446_744_073_709_551_615,
+        status,
+        what,
+        length: 1500,
+        imm,
+        qpn: 17,
+    })
+}
+
+#[test]
+fn the_data_path_tells_completions_and_events(rt: HostRuntime) -> Result<(), Fail> {
+    let polled = |taken: u32, overrun: bool| Saying::Polled { taken, overrun };
+    let rows = [
+        (polled(16, false), "ok 16"),
+        (polled(1, true), "ok 1 overrun"),
+        (Saying::Empty { overrun: false }, "empty"),
+        (Saying::Empty { overrun: true }, "empty overrun"),
+        (
+            completion(Status::Success, What::Send, None),
+            "wc 18446744073709551615 SUCCESS SEND 1500 qpn 17",
+        ),
+        (
+            completion(Status::LocLenErr, What::Recv, Some(0xab)),
+            "wc 18446744073709551615 LOC_LEN_ERR RECV 1500 qpn 17 imm 0x000000ab",
+        ),
+        (
+            completion(Status::RemAccessErr, What::Write, Some(0x89ab_cdef)),
+            "wc 18446744073709551615 REM_ACCESS_ERR WRITE 1500 qpn 17 imm 0x89abcdef",
+        ),
+        (
+            completion(Status::RnrRetryExcErr, What::Read, None),
+            "wc 18446744073709551615 RNR_RETRY_EXC_ERR READ 1500 qpn 17",
+        ),
+        (
+            completion(Status::WrFlushErr, What::Ud, None),
+            "wc 18446744073709551615 WR_FLUSH_ERR UD 1500 qpn 17",
+        ),
+        (Saying::EventOf(1), "ok cq 1"),
+        (Saying::EventOf(63), "ok cq 63"),
+        (Saying::Dead, "dead"),
+    ];
+    expect_texts(&rt, rt.alloc(), &rows)?;
+    Ok(())
+}
