@@ -18,6 +18,7 @@ use Rattle.uv_run.specs.declared.flight.Task.{Task}
 use Rattle.uv_run.specs.declared.reply.Telling.TheVariants as telling
 use Rattle.uv_run.specs.Asking.{Asking, asking_of, task_of}
 use Rattle.uv_run.specs.Chains.{Chain}
+use Rattle.uv_run.specs.DataPath.{Shown, after_shown, data_shown}
 use Rattle.uv_run.specs.Follows.{AnswersAll, ClosesEnd, EndsAll, RunsOutAll, all_actors, is_asked_by, start_stand}
 use Rattle.uv_run.specs.Follows.AreAnswered.{Nothing}
 use Rattle.uv_run.specs.Lines.{BeginsTask, ClosesIf, ClosesOwn, PlaysAll, PlaysForm, PlaysNext, RunsTask, Told, all_files, plus_line}
@@ -33,6 +34,9 @@ use Rattle.uv_run.proofs.Sitting.Sits.{Rests, InCall, InTear}
 
 said_seated : (U : ℕ → Bool) (asked : List Asking) (s : Stand) (n : ℕ) (text : Saying) → SeatedAt U asked s → SeatedAt U asked (with_said s n text)
 said_seated U asked s n text all legal = let seated = all legal in record { sits = seated.sits; begun = seated.begun; teardowns = seated.teardowns }
+
+shown_seated : (U : ℕ → Bool) (asked : List Asking) (s : Stand) (n : ℕ) (d : Shown) → SeatedAt U asked s → SeatedAt U asked (after_shown s n d)
+shown_seated U asked s n d all legal = let seated = all legal in record { sits = seated.sits; begun = seated.begun; teardowns = seated.teardowns }
 
 asks_none : (asked : List Asking) (s : Stand) → SeatedAt all_told asked s → SeatedAt all_told (asked ++ []) s
 asks_none asked s all = let P : List Asking → Type 0 = λ v. SeatedAt all_told v s in subst P (sym (append-nil asked)) all
@@ -130,6 +134,11 @@ form_seated asked more s n (form.Die c) s' range p all =
     let quiet = seated_quiet asked ready c (λ legal sits. seat_rests asked ready c legal p.0.runs.ended sits) (loud_out asked s c ready p.0.runs all) in
     let closed = own_hushed asked n c ready all_files d.closed d.closes (record { seated = quiet; idle = p.0.runs.ended }) in
     subst P (sym p.1) (asks_none asked s' (subst Q (sym d.told) (said_seated all_told asked d.closed n _ (seated_loud asked d.closed c closed.idle closed.seated))))
+form_seated asked more s n (form.Data c call) s' range p all =
+    let P : List Asking → Type 0 = λ v. SeatedAt all_told (asked ++ v) s' in
+    let Q : Stand → Type 0 = λ v. SeatedAt all_told asked v in
+    let ready = p.0.ready in
+    subst P (sym p.1) (asks_none asked s' (subst Q (sym p.0.goes) (shown_seated all_told asked ready n (data_shown ready.site.held ready.replies call) (loud_out asked s c ready p.0.runs all))))
 
 -- All lines.
 
@@ -155,6 +164,7 @@ module _ (c : ℕ) (apart : (a : ℕ) → Acts a → c ≢ a) where
   outside_form asked more s n (form.Minus a d) s' range p all = subst (λ v. Outside c (asked ++ v)) (sym p.goes.1) (outside_one c asked n a (task_of p.ready.replies d) (apart a (acts a d range)) all)
   outside_form asked more s n (form.Plus a) s' range p all = subst (λ v. Outside c (asked ++ v)) (sym p.1) (ap (filter (is_asked_by c)) (append-nil asked) ∙ all)
   outside_form asked more s n (form.Die k) s' range p all = subst (λ v. Outside c (asked ++ v)) (sym p.1) (ap (filter (is_asked_by c)) (append-nil asked) ∙ all)
+  outside_form asked more s n (form.Data k call) s' range p all = subst (λ v. Outside c (asked ++ v)) (sym p.1) (ap (filter (is_asked_by c)) (append-nil asked) ∙ all)
 
   outside_lines : (t : Told) (lines : List Line) (t' : Told) → All IsInRange lines → Chain PlaysNext t lines t' → Outside c t.asked → Outside c t'.asked
   outside_lines t [] t' ranges same all = subst (λ (v : Told). Outside c v.asked) (sym same) all

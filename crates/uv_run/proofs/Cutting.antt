@@ -26,7 +26,7 @@ long_turned k m s a n t continues long = let more = continued_length s.site.hist
 line_long : (t : Told) (l : Line) (t' : Told) → PlaysNext t l t' → mark_at t.stand ≤ mark_at t'.stand
 line_long t l t' plays =
     let k = mark_at t.stand in
-    kept_lines (IsLong k) (long_turned k) (λ s n text long. long) (λ s a n long. long) t (l ∷ []) t' (record { mid = t'; link = plays; others = refl }) (omega arith)
+    kept_lines (IsLong k) (long_turned k) (λ s n text long. long) (λ s a n long. long) (λ s n d long. long) t (l ∷ []) t' (record { mid = t'; link = plays; others = refl }) (omega arith)
 
 end_long : (lines : List Line) (told : Record) (f : FollowsScript lines told) → mark_at f.played ≤ length told.history
 end_long lines told f =

@@ -1,5 +1,5 @@
 -- Where no text is ENOMEM, the lines of a script determine the record of their run.
-use Rattle.std.proofs.Common.{◌≡◌, ℕ, Bool, true, false, List, [], ◌∷◌, ◌++◌, Option, Some, None, Ok, Err, refl, ap, sym, ◌∙◌, subst, inl, inr, append-nil, append_assoc}
+use Rattle.std.proofs.Common.{◌≡◌, ℕ, Bool, true, false, List, [], ◌∷◌, ◌++◌, Option, Some, None, Ok, Err, map, refl, ap, sym, ◌∙◌, subst, inl, inr, append-nil, append_assoc}
 use Rattle.std.specs.Prelude.{◌≢◌, Result}
 use Rattle.uv_num.specs.declared.errno.Errno.{Errno}
 use Rattle.uv_num.specs.declared.errno.Errno.TheVariants.{NoMem}
@@ -27,6 +27,7 @@ use Rattle.uv_run.specs.declared.reply.Telling.{Telling}
 use Rattle.uv_run.specs.declared.reply.Telling.TheVariants as telling
 use Rattle.uv_run.specs.Asking.{Asking, asking_of, task_of}
 use Rattle.uv_run.specs.Chains.{Chain}
+use Rattle.uv_run.specs.DataPath.{Shown, after_shown, data_played, said_under}
 use Rattle.uv_run.specs.Follows.{ClosesEnd, EndsFile, FollowsScript, all_actors}
 use Rattle.uv_run.specs.Laws.{HadMemory, RecordIsTold}
 use Rattle.uv_run.specs.Lines.{BeginsLine, BeginsTask, ClosesIf, ClosesOwn, PlaysForm, PlaysNext, RunsTask, Told, all_files}
@@ -53,6 +54,9 @@ grows_turned first m s a n t continues g =
 
 grows_said : (first : List Said) (s : Stand) (n : ℕ) (text : Saying) → Grows first s → Grows first (with_said s n text)
 grows_said first s n text g = grows_by first s (with_said s n text) (record { line = n; text = text } ∷ []) refl g
+
+grows_shown : (first : List Said) (s : Stand) (n : ℕ) (d : Shown) → Grows first s → Grows first (after_shown s n d)
+grows_shown first s n d g = grows_by first s (after_shown s n d) (map (said_under n) d.texts) refl g
 
 grows_begun : (first : List Said) (s : Stand) (a n : ℕ) → Grows first s → Grows first (with_begun s a n)
 grows_begun first s a n g = record { more = g.more; is = g.is }
@@ -185,6 +189,9 @@ form_once s n (form.Die c) x y ps qs p q hx hy =
     let P : Stand → Type 0 = λ v. Chain (ClosesOwn n c) v all_files q.0.goes.closed in
     let closed = Chain-once (ClosesOwn n c) (λ t f u v cu cv. close_once _ t n c f u v cu cv) p.0.ready all_files p.0.goes.closed q.0.goes.closed p.0.goes.closes (subst P (sym same) q.0.goes.closes) in
     record { stand = p.0.goes.told ∙ ap (λ (v : Stand). with_said v n saying.Ok) closed ∙ sym q.0.goes.told; asked = p.1 ∙ sym q.1 }
+form_once s n (form.Data c call) x y ps qs p q hx hy =
+    let same = RunsOut-once telling.ToEnd s c p.0.ready q.0.ready p.0.runs q.0.runs in
+    record { stand = p.0.goes ∙ ap (λ (v : Stand). data_played v n call) same ∙ sym q.0.goes; asked = p.1 ∙ sym q.1 }
 
 told_same : (x y : Stand) (p q : List Asking) → x ≡ y → p ≡ q → (let t : Told = record { stand = x; asked = p } in t) ≡ record { stand = y; asked = q }
 told_same x y p q es ea = ap (λ (v : Stand). (let t : Told = record { stand = v; asked = p } in t)) es ∙ ap (λ (v : List Asking). (let t : Told = record { stand = y; asked = v } in t)) ea
@@ -195,7 +202,7 @@ next_once t l x y p q hx hy =
     told_same x.stand y.stand x.asked y.asked same.stand (p.asks ∙ ap (λ v. t.asked ++ v) same.asked ∙ sym q.asks)
 
 grown_lines : (t : Told) (lines : List Line) (x : Told) → Chain PlaysNext t lines x → HadMemory x.stand.said → HadMemory t.stand.said
-grown_lines t lines x plays all = memory_back t.stand.said x.stand (kept_lines (Grows t.stand.said) (grows_turned t.stand.said) (grows_said t.stand.said) (grows_begun t.stand.said) t lines x plays (grows_start t.stand)) all
+grown_lines t lines x plays all = memory_back t.stand.said x.stand (kept_lines (Grows t.stand.said) (grows_turned t.stand.said) (grows_said t.stand.said) (grows_begun t.stand.said) (grows_shown t.stand.said) t lines x plays (grows_start t.stand)) all
 
 lines_once : (t : Told) (lines : List Line) (x y : Told) → Chain PlaysNext t lines x → Chain PlaysNext t lines y → HadMemory x.stand.said → HadMemory y.stand.said → x ≡ y
 lines_once t [] x y p q hx hy = p ∙ sym q

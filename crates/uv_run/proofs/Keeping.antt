@@ -12,6 +12,7 @@ use Rattle.uv_run.specs.declared.reply.Telling.{Telling}
 use Rattle.uv_run.specs.declared.reply.Telling.TheVariants as telling
 use Rattle.uv_run.specs.Asking.{Asking, task_of}
 use Rattle.uv_run.specs.Chains.{Chain}
+use Rattle.uv_run.specs.DataPath.{Shown, after_shown, data_shown}
 use Rattle.uv_run.specs.Follows.{ClosesEnd, EndsFile}
 use Rattle.uv_run.specs.Lines.{BeginsTask, ClosesIf, ClosesOwn, PlaysForm, PlaysNext, RunsTask, Told, plus_line}
 use Rattle.uv_run.specs.Site.{Turned, closes, event_of, is_busy}
@@ -81,18 +82,21 @@ module _ (P : Stand → Type 0) (turned : (m : Telling) (s : Stand) (a n : ℕ) 
       kept_out telling.Dying (after_waiting telling.Dying (with_begun s c n) c n (closes s.site c f)) c s' runs (kept_after telling.Dying (with_begun s c n) c n (closes s.site c f) (closes_continues s.site c f) (begun s c n all))
   kept_close false s n c f s' same all = subst P (sym same) all
 
-  kept_form : (s : Stand) (n : ℕ) (x : Form) (s' : Stand) (asked : List Asking) → PlaysForm s n x s' asked → P s → P s'
-  kept_form s n (form.Plain a deed) s' asked p all = kept_run p.ready n a (task_of p.ready.replies deed) s' p.goes.0 (kept_out telling.ToEnd s a p.ready p.runs all)
-  kept_form s n (form.Minus a deed) s' asked p all = kept_begin p.ready n a (task_of p.ready.replies deed) s' p.goes.0 (kept_out telling.ToEnd s a p.ready p.runs all)
-  kept_form s n (form.Plus a) s' asked p all = subst P (sym p.0) (kept_plus (is_busy s.site a) s n a all)
-  kept_form s n (form.Die c) s' asked p all =
+  kept_form : ((s : Stand) (n : ℕ) (d : Shown) → P s → P (after_shown s n d)) → (s : Stand) (n : ℕ) (x : Form) (s' : Stand) (asked : List Asking) → PlaysForm s n x s' asked → P s → P s'
+  kept_form shown s n (form.Plain a deed) s' asked p all = kept_run p.ready n a (task_of p.ready.replies deed) s' p.goes.0 (kept_out telling.ToEnd s a p.ready p.runs all)
+  kept_form shown s n (form.Minus a deed) s' asked p all = kept_begin p.ready n a (task_of p.ready.replies deed) s' p.goes.0 (kept_out telling.ToEnd s a p.ready p.runs all)
+  kept_form shown s n (form.Plus a) s' asked p all = subst P (sym p.0) (kept_plus (is_busy s.site a) s n a all)
+  kept_form shown s n (form.Die c) s' asked p all =
       let d = p.0.goes in
       subst P (sym d.told)
       (said d.closed n _ (kept_chain (ClosesOwn n c) (λ t f u closes told. kept_close _ t n c f u closes told) p.0.ready _ d.closed d.closes (kept_out telling.ToEnd s c p.0.ready p.0.runs all)))
+  kept_form shown s n (form.Data c call) s' asked p all =
+      let ready = p.0.ready in
+      subst P (sym p.0.goes) (shown ready n (data_shown ready.site.held ready.replies call) (kept_out telling.ToEnd s c ready p.0.runs all))
 
-  pub kept_lines : (t : Told) (lines : List Line) (t' : Told) → Chain PlaysNext t lines t' → P t.stand → P t'.stand
-  kept_lines t [] t' same all = subst (λ (v : Told). P v.stand) (sym same) all
-  kept_lines t (l ∷ lines) t' links all = kept_lines links.mid lines t' links.others (kept_form t.stand l.number l.form links.mid.stand links.link.more links.link.plays all)
+  pub kept_lines : ((s : Stand) (n : ℕ) (d : Shown) → P s → P (after_shown s n d)) → (t : Told) (lines : List Line) (t' : Told) → Chain PlaysNext t lines t' → P t.stand → P t'.stand
+  kept_lines shown t [] t' same all = subst (λ (v : Told). P v.stand) (sym same) all
+  kept_lines shown t (l ∷ lines) t' links all = kept_lines shown links.mid lines t' links.others (kept_form shown t.stand l.number l.form links.mid.stand links.link.more links.link.plays all)
 
   kept_end : (v : Bool) (s : Stand) (f : ℕ) (s' : Stand) → ClosesEnd v s f s' → P s → P s'
   kept_end true s f s' runs all =

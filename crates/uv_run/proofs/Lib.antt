@@ -5,6 +5,7 @@ mod CallSounds
 mod ChainLaws
 mod Continuing
 mod Cutting
+mod DataPath
 mod Determined
 mod Ending
 mod Keeping

@@ -9,6 +9,7 @@ use Rattle.uv_run.specs.declared.reply.Reply.{Reply}
 use Rattle.uv_run.specs.declared.reply.Telling.{Telling}
 use Rattle.uv_run.specs.declared.reply.Telling.TheVariants as telling
 use Rattle.uv_run.specs.Asking.{Asking}
+use Rattle.uv_run.specs.DataPath.{Shown, after_shown, said_under}
 use Rattle.uv_run.specs.Follows.{AreAmong, EndsAll, RunsOutAll, all_actors, said_of, start_stand}
 use Rattle.uv_run.specs.Lines.{PlaysAll, all_files}
 use Rattle.uv_run.specs.Site.{Turned}
@@ -71,6 +72,9 @@ tells_turned m s a n t continues all =
 pub tells_said : (s : Stand) (n : ℕ) (text : Saying) → Tells s → Tells (with_said s n text)
 tells_said s n text all = among_more (map said_of s.replies) s.said (record { line = n; text = text } ∷ []) all
 
+pub tells_shown : (s : Stand) (n : ℕ) (d : Shown) → Tells s → Tells (after_shown s n d)
+tells_shown s n d all = among_more (map said_of s.replies) s.said (map (said_under n) d.texts) all
+
 -- the whole
 pub tells_all :
     (lines : List Line) (played finished ended : Stand) (asked : List Asking) → PlaysAll start_stand lines played asked → RunsOutAll telling.ToEnd played all_actors finished → EndsAll finished all_files ended
@@ -79,4 +83,4 @@ unfolding start_stand
 tells_all lines played finished ended asked plays finishes ends =
     kept_ends Tells tells_turned tells_said (λ s a n all. all) finished all_files ended ends
     (kept_finish Tells tells_turned tells_said (λ s a n all. all) telling.ToEnd played all_actors finished finishes
-    (kept_lines Tells tells_turned tells_said (λ s a n all. all) (record { stand = start_stand; asked = [] }) lines (record { stand = played; asked = asked }) plays tt))
+    (kept_lines Tells tells_turned tells_said (λ s a n all. all) tells_shown (record { stand = start_stand; asked = [] }) lines (record { stand = played; asked = asked }) plays tt))

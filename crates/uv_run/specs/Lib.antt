@@ -1,5 +1,6 @@
 pub mod Asking
 pub mod Chains
+pub mod DataPath
 pub mod Ends
 pub mod Follows
 pub mod Handles

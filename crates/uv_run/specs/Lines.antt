@@ -15,6 +15,7 @@ use Rattle.uv_run.specs.Site.{Turned, state_at, is_busy, closes, Begins}
 use Rattle.uv_run.specs.Stand.{Stand, with_begun, after_turned, with_said}
 use Rattle.uv_run.specs.Turns.{after_event, after_waiting, RunsOut}
 use Rattle.uv_run.specs.Chains.{Chain}
+use Rattle.uv_run.specs.DataPath.{data_played}
 use Rattle.uv_run.specs.Asking.{Asking, task_of, asking_of}
 
 -- Beginning.
@@ -89,6 +90,7 @@ PlaysForm s n (form.Minus a deed) s' asked =
     RunsFirst s a (λ ready. BeginsTask ready n a (task_of ready.replies deed) s' × (asked ≡ asking_of n a (task_of ready.replies deed)))
 PlaysForm s n (form.Plus a) s' asked = (s' ≡ plus_line (is_busy s.site a) s n a) × (asked ≡ [])
 PlaysForm s n (form.Die c) s' asked = RunsFirst s c (λ ready. DiesLine ready n c s') × (asked ≡ [])
+PlaysForm s n (form.Data c call) s' asked = RunsFirst s c (λ ready. s' ≡ data_played ready n call) × (asked ≡ [])
 
 abbrev pub Plays : Stand → Line → Stand → List Asking → Type 0
 Plays s l s' asked = PlaysForm s l.number l.form s' asked

@@ -52,13 +52,38 @@ handle_told answer.Event = NONE
 handle_told (answer.Kept kept) = NONE
 handle_told (answer.Refused e) = NONE
 
-abbrev pub handle_in : Option Reply → ℕ
-handle_in None = NONE
-handle_in (Some r) = handle_told r.answer
+-- the cell of an object, by its index and its generation
+abbrev pub cell_told : Answer → Option (ℕ × ℕ)
+cell_told answer.Ok = None
+cell_told (answer.Made handle index generation) = Some (index, generation)
+cell_told (answer.State state index) = None
+cell_told answer.Event = None
+cell_told (answer.Kept kept) = None
+cell_told (answer.Refused e) = None
 
--- the handle that the create on a line was given, as the last reply to it tells: none where it has not ended, or was refused
+abbrev pub answer_in : Option Reply → Option Answer
+answer_in None = None
+answer_in (Some r) = Some r.answer
+
+-- the answer of what a line began, as the last reply to it tells, if it has ended
+abbrev pub answer_on : List Reply → ℕ → Option Answer
+answer_on replies n = answer_in (find (is_reply_on n) (reverse replies))
+
+abbrev pub handle_in : Option Answer → ℕ
+handle_in None = NONE
+handle_in (Some a) = handle_told a
+
+-- the handle that the create on a line was given: none where it has not ended, or was refused
 abbrev pub given : List Reply → ℕ → ℕ
-given replies n = handle_in (find (is_reply_on n) (reverse replies))
+given replies n = handle_in (answer_on replies n)
+
+abbrev pub cell_in : Option Answer → Option (ℕ × ℕ)
+cell_in None = None
+cell_in (Some a) = cell_told a
+
+-- the cell that it was given, in the same way
+abbrev pub cell_given : List Reply → ℕ → Option (ℕ × ℕ)
+cell_given replies n = cell_in (answer_on replies n)
 
 -- the handle that a word stands for
 abbrev pub handle_of : List Reply → Handle → ℕ

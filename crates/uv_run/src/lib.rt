@@ -6,6 +6,7 @@
 
 mod asked;
 mod beginning;
+mod data_path;
 mod flight;
 mod flights;
 mod heard;

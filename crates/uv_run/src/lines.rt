@@ -24,7 +24,7 @@ use crate::sayings::awaited;
 use std::alloc::{AllocError, Global};
 use uv_num::{Errno, FILES, List, Put, change_at};
 use uv_report::Saying;
-use uv_script::{Deed, Form, Line, Script};
+use uv_script::{DataCall, Deed, Form, Line, Script};
 
 /// What an actor begins.
 impl Run {
@@ -238,6 +238,23 @@ impl Run {
         self.say(line, Saying::Ok)
     }
 
+    /// `C ..`, a call of the data path: what the client has in flight runs to its end first.
+    fn data_line(
+        &mut self,
+        alloc: Global,
+        line: u32,
+        client: u32,
+        call: &DataCall,
+    ) -> Result<(), AllocError>
+        requires client { IsClient client }
+        requires sound { IsSound self.old.flights }
+        ensures plays { OnOk result (PlaysOne (stand_of self.old) line (form.Data client call.now) (stand_of self.new)) }
+        ensures sound { OnOk result (StaysSound self.old.flights self.new.flights) }
+    {
+        self.run_out(Telling::ToEnd, client)?;
+        self.call_data(alloc, line, call)
+    }
+
     /// Plays a line.
     pub fn play(&mut self, alloc: Global, line: &Line) -> Result<(), AllocError>
         requires range { IsInRange line.now }
@@ -246,11 +263,12 @@ impl Run {
         ensures plays { OnOk result (PlaysOne (stand_of self.old) line.now.number line.now.form (stand_of self.new)) }
         ensures sound { OnOk result (GoesSound self.old.flights self.new.flights) }
     {
-        match line.form {
-            Form::Plain { actor, deed } => self.plain(alloc, line.number, actor, deed),
-            Form::Minus { actor, deed } => self.minus(alloc, line.number, actor, deed),
-            Form::Plus { actor } => self.plus(line.number, actor),
-            Form::Die { client } => self.die(line.number, client),
+        match &line.form {
+            Form::Plain { actor, deed } => self.plain(alloc, line.number, *actor, *deed),
+            Form::Minus { actor, deed } => self.minus(alloc, line.number, *actor, *deed),
+            Form::Plus { actor } => self.plus(line.number, *actor),
+            Form::Die { client } => self.die(line.number, *client),
+            Form::Data { client, call } => self.data_line(alloc, line.number, *client, call),
         }
     }
 

@@ -1,23 +1,24 @@
-//! The replies so far, and the handles that they tell.
+//! The replies so far, and the handles and cells that they tell.
 
 ghost use Rattle.std.specs.Prelude.{◌≡◌, ◌++◌, [], ◌∷◌, OnOk, OnErr};
-ghost use Rattle.uv_run.specs.Stand.{given};
+ghost use Rattle.uv_run.specs.Stand.{cell_given, given};
 
 use crate::reply::Reply;
-use crate::sayings::handle_told;
+use crate::sayings::{cell_told, handle_told};
 use std::alloc::{AllocError, Global};
 use std::collections::BTreeMap;
 use std::marker::Model;
+use uv_machine::Answer;
 use uv_num::{List, NONE};
 
 /// The replies so far, which contracts see as their list, in the order in which they came.
 ///
-/// Beside the list stands the handle that the last reply to each line tells, so that the lines that declare names are
-/// found without a walk over the replies.
+/// Beside the list stands the answer that the last reply to each line tells, so that what the lines that declare names were
+/// given is found without a walk over the replies.
 #[derive(Drop)]
 pub struct Replies {
     list: List<Reply>,
-    handles: BTreeMap<u32, u32>,
+    answers: BTreeMap<u32, Answer>,
 }
 
 impl Model for Replies {
@@ -29,7 +30,7 @@ impl Model for Replies {
 
     ghost view = { λ r. r.list };
 
-    ghost invariant = { λ r. AreKept r.handles r.list };
+    ghost invariant = { λ r. AreKept r.answers r.list };
 }
 
 impl Replies {
@@ -39,7 +40,7 @@ impl Replies {
     {
         Replies {
             list: List::new(alloc),
-            handles: BTreeMap::new(alloc),
+            answers: BTreeMap::new(alloc),
         }
     }
 
@@ -49,12 +50,8 @@ impl Replies {
         ensures err { OnErr result (self.new ≡ self.old) }
     {
         self.list.push(reply)?;
-        if self
-            .handles
-            .insert(reply.line, handle_told(reply.answer))
-            .is_err()
-        {
-            // List and handles are put together, or neither is.
+        if self.answers.insert(reply.line, reply.answer).is_err() {
+            // List and answers are put together, or neither is.
             let _ = self.list.pop();
             return Err(AllocError);
         }
@@ -65,6 +62,20 @@ impl Replies {
     pub fn given(&self, line: u32) -> u32
         ensures { result ≡ given self.now line }
     {
-        self.handles.get(&line).copied().unwrap_or(NONE)
+        match self.answers.get(&line) {
+            None => NONE,
+            Some(answer) => handle_told(*answer),
+        }
+    }
+
+    /// The cell that the create on this line was given, by its index and its generation. None where it was refused or hasn't
+    /// ended.
+    pub fn cell_given(&self, line: u32) -> Option<(u32, u32)>
+        ensures { result ≡ cell_given self.now line }
+    {
+        match self.answers.get(&line) {
+            None => None,
+            Some(answer) => cell_told(*answer),
+        }
     }
 }

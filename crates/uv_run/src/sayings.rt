@@ -2,7 +2,7 @@
 
 ghost use Rattle.std.specs.Prelude.{◌≡◌};
 ghost use Rattle.uv_num.specs.declared.kind.Kind.TheVariants as kind;
-ghost use Rattle.uv_run.specs.Stand.{ended_reply, event_line, event_text, gone_text, handle_told, key_told, made_text, pair_number, reply_by, reply_text, saying_for, tearer_of, full_text};
+ghost use Rattle.uv_run.specs.Stand.{cell_told, ended_reply, event_line, event_text, gone_text, handle_told, key_told, made_text, pair_number, reply_by, reply_text, saying_for, tearer_of, full_text};
 ghost use Rattle.uv_run.specs.Turns.{awaited};
 
 use crate::heard::{Ended, Event};
@@ -95,6 +95,21 @@ pub fn handle_told(answer: Answer) -> u32
         Answer::Made { handle, .. } => handle,
         Answer::Ok | Answer::State { .. } | Answer::Event | Answer::Kept(_) | Answer::Refused(_) =>
             NONE,
+    }
+}
+
+/// The cell that an answer tells, by its index and its generation.
+pub fn cell_told(answer: Answer) -> Option<(u32, u32)>
+    ensures { result ≡ cell_told answer }
+{
+    match answer {
+        Answer::Made {
+            index,
+            generation,
+            ..
+        } => Some((index, generation)),
+        Answer::Refused(_) | Answer::Ok | Answer::State { .. } | Answer::Event | Answer::Kept(_) =>
+            None,
     }
 }
 

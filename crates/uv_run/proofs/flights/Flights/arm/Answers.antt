@@ -1,0 +1,10 @@
+use Rattle.uv_world.specs.Completing.{held_armed}
+use Rattle.uv_run.specs.Sound.{site_of}
+use Rattle.uv_run.proofs.DataPath.{contents_stay, held_site}
+use Rattle.uv_run.proofs.flights.Flights.arm.Goals as goal
+
+pub returns-clause-site : goal.returns-clause-site
+returns-clause-site c = held_site c.args.self.now c.arm.new.self (held_armed (site_of c.args.self.now).held c.args.cq c.args.solicited) c.arm.ensures.stage
+
+pub returns-clause-sound : goal.returns-clause-sound
+returns-clause-sound c = contents_stay c.args.self.now c.arm.new.self c.requires.sound c.arm.ensures.world c.arm.ensures.only
