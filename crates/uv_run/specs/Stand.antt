@@ -53,13 +53,13 @@ handle_told (answer.Kept kept) = NONE
 handle_told (answer.Refused e) = NONE
 
 -- the cell of an object, by its index and its generation
-abbrev pub cell_told : Answer → Option (ℕ × ℕ)
-cell_told answer.Ok = None
-cell_told (answer.Made handle index generation) = Some (index, generation)
-cell_told (answer.State state index) = None
-cell_told answer.Event = None
-cell_told (answer.Kept kept) = None
-cell_told (answer.Refused e) = None
+abbrev pub cell_answered : Answer → Option (ℕ × ℕ)
+cell_answered answer.Ok = None
+cell_answered (answer.Made handle index generation) = Some (index, generation)
+cell_answered (answer.State state index) = None
+cell_answered answer.Event = None
+cell_answered (answer.Kept kept) = None
+cell_answered (answer.Refused e) = None
 
 abbrev pub answer_in : Option Reply → Option Answer
 answer_in None = None
@@ -77,13 +77,13 @@ handle_in (Some a) = handle_told a
 abbrev pub given : List Reply → ℕ → ℕ
 given replies n = handle_in (answer_on replies n)
 
-abbrev pub cell_in : Option Answer → Option (ℕ × ℕ)
-cell_in None = None
-cell_in (Some a) = cell_told a
+abbrev pub cell_by : Option Answer → Option (ℕ × ℕ)
+cell_by None = None
+cell_by (Some a) = cell_answered a
 
 -- the cell that it was given, in the same way
 abbrev pub cell_given : List Reply → ℕ → Option (ℕ × ℕ)
-cell_given replies n = cell_in (answer_on replies n)
+cell_given replies n = cell_by (answer_on replies n)
 
 -- the handle that a word stands for
 abbrev pub handle_of : List Reply → Handle → ℕ

@@ -4,7 +4,7 @@ ghost use Rattle.std.specs.Prelude.{◌≡◌, ◌++◌, [], ◌∷◌, OnOk, On
 ghost use Rattle.uv_run.specs.Stand.{cell_given, given};
 
 use crate::reply::Reply;
-use crate::sayings::{cell_told, handle_told};
+use crate::sayings::{cell_answered, handle_told};
 use std::alloc::{AllocError, Global};
 use std::collections::BTreeMap;
 use std::marker::Model;
@@ -75,7 +75,7 @@ impl Replies {
     {
         match self.answers.get(&line) {
             None => None,
-            Some(answer) => cell_told(*answer),
+            Some(answer) => cell_answered(*answer),
         }
     }
 }

@@ -2,7 +2,7 @@
 
 ghost use Rattle.std.specs.Prelude.{◌≡◌};
 ghost use Rattle.uv_num.specs.declared.kind.Kind.TheVariants as kind;
-ghost use Rattle.uv_run.specs.Stand.{cell_told, ended_reply, event_line, event_text, gone_text, handle_told, key_told, made_text, pair_number, reply_by, reply_text, saying_for, tearer_of, full_text};
+ghost use Rattle.uv_run.specs.Stand.{cell_answered, ended_reply, event_line, event_text, gone_text, handle_told, key_told, made_text, pair_number, reply_by, reply_text, saying_for, tearer_of, full_text};
 ghost use Rattle.uv_run.specs.Turns.{awaited};
 
 use crate::heard::{Ended, Event};
@@ -99,8 +99,8 @@ pub fn handle_told(answer: Answer) -> u32
 }
 
 /// The cell that an answer tells, by its index and its generation.
-pub fn cell_told(answer: Answer) -> Option<(u32, u32)>
-    ensures { result ≡ cell_told answer }
+pub fn cell_answered(answer: Answer) -> Option<(u32, u32)>
+    ensures { result ≡ cell_answered answer }
 {
     match answer {
         Answer::Made {

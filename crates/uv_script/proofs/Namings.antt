@@ -18,7 +18,7 @@ use Rattle.uv_script.specs.Bytes.{spelled_bytes}
 use Rattle.uv_script.specs.DataCalls.{count_word, solicited_word, data_operands, ended, data_call, data_call_of}
 use Rattle.uv_script.specs.DataVerbs.{data_verb}
 use Rattle.uv_script.specs.Deeds.{calls, opens, command_deed, gives_command, gives_bytes, verb_deed, is_undeclared, new_name, as_name, naming_after, Stated, stated, client_deed, unplug_word, driver_deed, deed_of}
-use Rattle.uv_script.specs.Handles.{as_handle, named_handle, handle_word, may_handle_word, is_of_kind, line_of, object_word}
+use Rattle.uv_script.specs.Handles.{as_handle, named_handle, handle_word, may_handle_word, makes_kind, line_of, object_word}
 use Rattle.uv_script.specs.Heads.{head_word}
 use Rattle.uv_script.specs.Lines.{lines_of, text_of, is_plain_text}
 use Rattle.uv_script.specs.Names.{Look, Naming, with_naming}
@@ -307,8 +307,8 @@ kind_at-place kind.Ah = refl
 kind_at-place kind.Mr = refl
 kind_at-place kind.Mw = refl
 
-is_of_kind-same : (k : Kind) (known : Known) → is_of_kind k known ≡ true → known.kind ≡ k
-is_of_kind-same k known is = sym (kind_at-place known.kind) ∙ ap kind_at (eqb-true (kind_place known.kind) (kind_place k) is) ∙ kind_at-place k
+makes_kind-same : (k : Kind) (known : Known) → makes_kind k known ≡ true → known.kind ≡ k
+makes_kind-same k known is = sym (kind_at-place known.kind) ∙ ap kind_at (eqb-true (kind_place known.kind) (kind_place k) is) ∙ kind_at-place k
 
 -- a name that is known has this line and kind
 pub record IsKnownAs (look : Look) (named : Named) : Type 0 where
@@ -327,8 +327,8 @@ IsObject look k line = IsKnownAs look (record { line = line; kind = k })
 looked-object : (look : Look) (k : Kind) (word : List ℕ) (o : Option Known) → look word ≡ o → OfSome (IsObject look k) (option_and_then (line_of k) o)
 looked-object look k word None is = tt
 looked-object look k word (Some known) is =
-    choice-of (IsObject look k) (is_of_kind k known) (Some known.line) None
-    (λ same. record { name = word; known = known; found = is; line = refl; kind = is_of_kind-same k known same }) (λ other. tt)
+    choice-of (IsObject look k) (makes_kind k known) (Some known.line) None
+    (λ same. record { name = word; known = known; found = is; line = refl; kind = makes_kind-same k known same }) (λ other. tt)
 
 object_word-of : (look : Look) (k : Kind) (word : List ℕ) → OfSome (IsObject look k) (object_word look k word)
 object_word-of look k word = looked-object look k word (look word) refl

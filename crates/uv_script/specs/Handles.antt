@@ -32,11 +32,11 @@ may_handle_word look word = if pointwise nat_eq word (codes "-") then Some None 
 
 -- The words for objects of a kind: names alone.
 
-abbrev pub is_of_kind : Kind → Known → Bool
-is_of_kind kind known = kind_place known.kind == kind_place kind
+abbrev pub makes_kind : Kind → Known → Bool
+makes_kind kind known = kind_place known.kind == kind_place kind
 
 abbrev pub line_of : Kind → Known → Option ℕ
-line_of kind known = if is_of_kind kind known then Some known.line else None
+line_of kind known = if makes_kind kind known then Some known.line else None
 
 -- the line that declares a name, where the name is of this kind
 abbrev pub object_word : Look → Kind → List ℕ → Option ℕ

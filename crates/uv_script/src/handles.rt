@@ -2,7 +2,7 @@
 
 ghost use Rattle.std.specs.Prelude.{◌≡◌, option_and_then};
 ghost use Rattle.std.specs.Option.{option_map};
-ghost use Rattle.uv_script.specs.Handles.{handle_word, may_handle_word, named_handle, as_handle, is_of_kind, line_of, object_word};
+ghost use Rattle.uv_script.specs.Handles.{handle_word, may_handle_word, named_handle, as_handle, makes_kind, line_of, object_word};
 ghost use Rattle.uv_script.specs.Kept.{look_kept};
 ghost use Rattle.uv_script.specs.Numbers.{number_of};
 
@@ -65,15 +65,15 @@ pub(crate) fn object(names: &Names<'_>, kind: Kind, word: &[u8]) -> Option<u32>
 fn line_of(kind: Kind, known: Known) -> Option<u32>
     ensures { result ≡ line_of kind known }
 {
-    if is_of_kind(kind, known) {
+    if makes_kind(kind, known) {
         Some(known.line)
     } else {
         None
     }
 }
 
-fn is_of_kind(kind: Kind, known: Known) -> bool
-    ensures { result ≡ is_of_kind kind known }
+fn makes_kind(kind: Kind, known: Known) -> bool
+    ensures { result ≡ makes_kind kind known }
 {
     known.kind.place() == kind.place()
 }
