@@ -261,6 +261,7 @@ fn lines_of_the_data_path(rt: HostRuntime) -> Result<(), Fail> {
         (2, DataCall::Event { channel: 1 }),
     ];
     let script = script(rt.alloc(), text)?;
+    assert_eq!(rt; script.len(), 5);
     for (place, (client, call)) in want.iter().enumerate() {
         match &script.line(place as u32 + 2).form {
             Form::Data {
